@@ -1,0 +1,10 @@
+pub mod Test
+pub mod Scan
+pub mod Every
+pub mod Pairs
+pub mod Causes
+pub mod Nesting
+pub mod Details
+pub mod Shape
+pub mod Facts
+pub mod Tried

@@ -1,0 +1,6 @@
+pub mod Scan
+pub mod Rows
+pub mod Class
+pub mod Names
+pub mod Refusals
+pub mod Body
