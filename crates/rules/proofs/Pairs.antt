@@ -1,14 +1,15 @@
 -- What the absence of causes 2 and 3 gives of the pairs, and what the bytes of a name then are.
 -- Assumes nothing.
-use mathlib.Core.Path.{_≡_, refl, sym, _∙_, ap}
-use mathlib.Core.Bool.{Bool, true, false, _&&_, _||_, not}
+use mathlib.Core.Path.{_≡_}
+use mathlib.Core.Bool.{true, false, _||_, not}
 use mathlib.Core.List.{List, []}
-use mathlib.Core.Option.{Option, none, some}
-use Prim.Native.Nat.{ℕ, zero, suc, _+_, _-_, _*_, _/_, _%_, _<_, _≤_}
+use mathlib.Core.Option.{none, some}
+use Prim.Native.Nat.{ℕ, _+_, _-_, _*_, _%_, _<_, _≤_}
+use native.Mathlib.Numerals.{add-one}
 use native.Mathlib.Omega.{arith}
-use lib.Dec.{ltb, leb, eqb}
+use lib.Dec.{ltb, eqb}
 use lib.ListN.{length, take, drop}
-use borrow.Author.Tests.{eqb-true, eqb-false, ltb-false, ltb-true, leb-true, lt-ltb, le-leb, le-ltb, lt-leb, not-false}
+use borrow.Author.Tests.{eqb-true, eqb-false, ltb-false, lt-ltb, le-leb, le-ltb, lt-leb, eq-eqb, ne-eqb, not-false}
 use Rattle.rules.specs.Scan.{lowest}
 use Rattle.rules.specs.Names.{pairCount, offset, len, previousEnd, badNameWords, badPair, namesOk, nameBytes}
 use Rattle.rules.proofs.Test.{case-of, case-found, clash, or-false}
@@ -18,6 +19,14 @@ use Rattle.rules.proofs.Scan.{lowest-none}
 pub names-ok : (p b : List ℕ) → badNameWords p b ≡ false → lowest (badPair p b) (pairCount p) ≡ none → namesOk p b ≡ true
 unfolding namesOk
 names-ok p b e f = rw (e, f, namesOk)
+
+pub bad-words : (p b : List ℕ) → badNameWords p b ≡ true → namesOk p b ≡ false
+unfolding namesOk
+bad-words p b e = rw (e, namesOk)
+
+pub bad-pairs : (p b : List ℕ) (i : ℕ) → badNameWords p b ≡ false → lowest (badPair p b) (pairCount p) ≡ some i → namesOk p b ≡ false
+unfolding namesOk
+bad-pairs p b i e f = rw (e, f, namesOk)
 
 pub ok-words : (p b : List ℕ) → namesOk p b ≡ true → badNameWords p b ≡ false
 unfolding namesOk
@@ -43,7 +52,23 @@ name-words p b e =
     let z : length p % 2 ≡ 0 = eqb-true (length p % 2) 0 (not-false (eqb (length p % 2) 0) (o .0)) in
     record { even = omega arith; pairs = ltb-false 500 (pairCount p) (q .0); bytes = ltb-false 8000 (length b) (q .1) }
 
+pub odd-words : (p b : List ℕ) → (length p % 2 ≡ 0 → ⊥) → badNameWords p b ≡ true
+unfolding badNameWords
+odd-words p b n = rw (ne-eqb (length p % 2) 0 n, badNameWords)
+
+pub many-pairs : (p b : List ℕ) → length p % 2 ≡ 0 → 500 < pairCount p → badNameWords p b ≡ true
+unfolding badNameWords
+many-pairs p b e h = rw (eq-eqb (length p % 2) 0 e, lt-ltb 500 (pairCount p) h, badNameWords)
+
+pub many-bytes : (p b : List ℕ) → length p % 2 ≡ 0 → pairCount p ≤ 500 → badNameWords p b ≡ ltb 8000 (length b)
+unfolding badNameWords
+many-bytes p b e h = rw (eq-eqb (length p % 2) 0 e, le-ltb 500 (pairCount p) h, badNameWords)
+
 -- ---- one pair
+pub previous-end : (p : List ℕ) (i : ℕ) → previousEnd p (i + 1) ≡ offset p i + len p i
+unfolding previousEnd
+previous-end p i = rw add-one
+
 pub record GoodPair (p b : List ℕ) (i : ℕ) : Type 0 where
   pub some-bytes : 0 < len p i
   pub after : previousEnd p i ≤ offset p i
@@ -59,6 +84,30 @@ good-pair p b i e =
       after = ltb-false (offset p i) (previousEnd p i) (q .0);
       within = ltb-false (length b) (offset p i + len p i) (q .1);
     }
+
+-- the three ways in which a pair is bad, and that a good one is not
+module _ (p b : List ℕ) (i : ℕ) where
+  pub empty-pair : len p i ≡ 0 → badPair p b i ≡ true
+  unfolding badPair
+  empty-pair z = rw (eq-eqb (len p i) 0 z, badPair)
+
+  pub early-pair : (len p i ≡ 0 → ⊥) → offset p i < previousEnd p i → badPair p b i ≡ true
+  unfolding badPair
+  early-pair z h = rw (ne-eqb (len p i) 0 z, lt-ltb (offset p i) (previousEnd p i) h, badPair)
+
+  pub long-pair : (len p i ≡ 0 → ⊥) → previousEnd p i ≤ offset p i → length b < offset p i + len p i → badPair p b i ≡ true
+  unfolding badPair
+  long-pair z h l =
+      rw (ne-eqb (len p i) 0 z, le-ltb (offset p i) (previousEnd p i) h, lt-ltb (length b) (offset p i + len p i) l, badPair)
+
+  pub pair-good : GoodPair p b i → badPair p b i ≡ false
+  unfolding badPair
+  pair-good g = rw (
+    ne-eqb (len p i) 0 (λ z. omega (arith, g .some-bytes)),
+    le-ltb (offset p i) (previousEnd p i) (g .after),
+    le-ltb (length b) (offset p i + len p i) (g .within),
+    badPair,
+  )
 
 pub ok-pair : (p b : List ℕ) → namesOk p b ≡ true → (i : ℕ) → i < pairCount p → GoodPair p b i
 ok-pair p b t i h = good-pair p b i (lowest-none (badPair p b) (pairCount p) i (ok-pairs p b t) h)

@@ -4,3 +4,8 @@ pub mod Class
 pub mod Names
 pub mod Refusals
 pub mod Body
+pub mod Scope
+pub mod Labels
+pub mod Placing
+pub mod Verdict
+pub mod Runner
