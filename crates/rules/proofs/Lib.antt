@@ -1,3 +1,4 @@
+pub mod Computed
 pub mod Test
 pub mod Scan
 pub mod Every
@@ -8,3 +9,4 @@ pub mod Details
 pub mod Shape
 pub mod Facts
 pub mod Tried
+pub mod Table

@@ -4,11 +4,9 @@ use mathlib.Core.Path.{_≡_, refl}
 use mathlib.Core.List.{List, [], _∷_, _++_}
 use mathlib.Core.Option.{Option, none, some}
 use Prim.Native.Nat.{ℕ}
-use Rattle.rules.specs.Scan.{lowest, howMany}
-use Rattle.rules.specs.Rows.{depth}
-use Rattle.rules.specs.Class.{detailAllowed, classOf, base, class}
-use Rattle.rules.specs.Names.{previousEnd, badNameWords, badPair, namesOk, nameBytes, bytesBefore, rank}
-use Rattle.rules.specs.Refusals.{badRowWords, nameAllowed, badRow, badSize, childrenFit, isBody, badShape, cause1, cause2, cause3, cause4, cause5, cause6, refusal}
+use Rattle.rules.specs.Names.{nameBytes, rank}
+use Rattle.rules.specs.Refusals.{refusal}
+use Rattle.rules.proofs.Computed.{computed}
 
 -- the words of a row at position 1
 abbrev row : ℕ → ℕ → ℕ → ℕ → List ℕ
@@ -18,18 +16,9 @@ row kind detail name size = kind ∷ detail ∷ 1 ∷ name ∷ size ∷ []
 abbrev Refused : List ℕ → Option (ℕ × ℕ) → Type 0
 Refused w o = refusal w (0 ∷ 1 ∷ 1 ∷ 1 ∷ []) (77 ∷ 76 ∷ []) ≡ o
 
--- what unfolds with these two is all that the refusal and the rank compute with
-refused : List ℕ → List ℕ → List ℕ → Option (ℕ × ℕ)
-unfolding lowest howMany depth detailAllowed classOf base class previousEnd badNameWords badPair badRowWords nameAllowed badRow badSize childrenFit isBody badShape cause1 cause2 cause3 cause4 cause5 cause6 refusal
-refused = refusal
-
-ranked : List ℕ → List ℕ → ℕ → ℕ
-unfolding lowest howMany previousEnd badNameWords badPair namesOk nameBytes bytesBefore rank
-ranked = rank
-
 -- {goto M;L:for{}}, document 01's example
 example : Refused (row 12 0 0 5 ++ row 11 2 1 1 ++ row 3 0 2 3 ++ row 19 0 0 2 ++ row 12 0 0 1) none
-unfolding refused
+unfolding computed
 example = refl
 
 -- 1: no rows; 4: kind 21, a detail that isn't allowed, a Return with a name, a goto without one, a name past the last pair
@@ -39,7 +28,7 @@ rows : Refused [] (some (1, 0))
     × Refused (row 12 0 0 2 ++ row 10 0 1 1) (some (4, 1))
     × Refused (row 12 0 0 2 ++ row 11 2 0 1) (some (4, 1))
     × Refused (row 12 0 0 2 ++ row 11 2 3 1) (some (4, 1))
-unfolding refused
+unfolding computed
 rows = (refl, refl, refl, refl, refl, refl)
 
 -- 5, sizes first: row 1 past the end although row 0 is no Block of all rows; then row 0 that is a For, and one that ends early
@@ -47,7 +36,7 @@ sizes : Refused (row 12 0 0 1 ++ row 2 0 0 2) (some (5, 1))
     × Refused (row 12 0 0 2 ++ row 2 0 0 0) (some (5, 1))
     × Refused (row 19 0 0 2 ++ row 12 0 0 1) (some (5, 0))
     × Refused (row 12 0 0 1 ++ row 2 0 0 1) (some (5, 0))
-unfolding refused
+unfolding computed
 sizes = (refl, refl, refl, refl)
 
 -- 5, shapes: a Case in a plain Block; a Comm in a switch; a Switch without its Block, the next Block being a sibling; an If whose else is a For;
@@ -59,13 +48,13 @@ shapes : Refused (row 12 0 0 2 ++ row 14 0 0 1) (some (5, 0))
     × Refused (row 12 0 0 3 ++ row 10 0 0 2 ++ row 2 0 0 1) (some (5, 1))
     × Refused (row 12 0 0 4 ++ row 12 0 0 2 ++ row 12 0 0 2 ++ row 2 0 0 1) (some (5, 1))
     × Refused (row 12 0 0 2 ++ row 3 0 1 1) (some (5, 1))
-unfolding refused
+unfolding computed
 shapes = (refl, refl, refl, refl, refl, refl, refl)
 
 -- a switch with a Case, and a Select with a Comm, pass
 clauses : Refused (row 12 0 0 4 ++ row 15 0 0 3 ++ row 12 0 0 2 ++ row 14 0 0 1) none
     × Refused (row 12 0 0 4 ++ row 18 0 0 3 ++ row 12 0 0 2 ++ row 17 1 0 1) none
-unfolding refused
+unfolding computed
 clauses = (refl, refl)
 
 -- 2 and 3: odd pair words; a length 0; a pair that starts before the previous end; one that ends past the bytes
@@ -73,12 +62,12 @@ pairs : (refusal (row 12 0 0 1) (0 ∷ []) [] ≡ some (2, 0))
     × (refusal (row 12 0 0 1) (0 ∷ 0 ∷ []) (65 ∷ []) ≡ some (3, 0))
     × (refusal (row 12 0 0 1) (0 ∷ 2 ∷ 1 ∷ 1 ∷ []) (65 ∷ 66 ∷ []) ≡ some (3, 1))
     × (refusal (row 12 0 0 1) (0 ∷ 1 ∷ 1 ∷ 2 ∷ []) (65 ∷ 66 ∷ []) ≡ some (3, 1))
-unfolding refused
+unfolding computed
 pairs = (refl, refl, refl, refl)
 
 -- 3 comes before 4, and 4 before 5
 order : (refusal (row 21 0 0 0) (0 ∷ 0 ∷ []) [] ≡ some (3, 0)) × (refusal (row 12 0 0 0 ++ row 21 0 0 1) [] [] ≡ some (4, 1))
-unfolding refused
+unfolding computed
 order = (refl, refl)
 
 -- names: bytes of a number, none for 0 and past the last; ranks by bytes, a prefix first and equal bytes under one rank (`ab`, `a`, `ab`, 0xFF)
@@ -89,5 +78,5 @@ ranks : (nameBytes (0 ∷ 2 ∷ 2 ∷ 1 ∷ []) (97 ∷ 98 ∷ 97 ∷ []) 1 ≡ 
     × (rank (0 ∷ 2 ∷ 2 ∷ 1 ∷ 3 ∷ 2 ∷ 5 ∷ 1 ∷ []) (97 ∷ 98 ∷ 97 ∷ 97 ∷ 98 ∷ 255 ∷ []) 2 ≡ 1)
     × (rank (0 ∷ 2 ∷ 2 ∷ 1 ∷ 3 ∷ 2 ∷ 5 ∷ 1 ∷ []) (97 ∷ 98 ∷ 97 ∷ 97 ∷ 98 ∷ 255 ∷ []) 3 ≡ 2)
     × (rank (0 ∷ 2 ∷ 2 ∷ 1 ∷ 3 ∷ 2 ∷ 5 ∷ 1 ∷ []) (97 ∷ 98 ∷ 97 ∷ 97 ∷ 98 ∷ 255 ∷ []) 4 ≡ 4)
-unfolding ranked
+unfolding computed
 ranks = (refl, refl, refl, refl, refl, refl, refl)

@@ -1,19 +1,15 @@
 -- Document 01, "Label call": the sheet and the bindings of the body at `root`, in closed form.
 -- Assumes nothing.
-use mathlib.Core.Path.{_≡_}
 use mathlib.Core.Bool.{Bool, true, false, _&&_, _||_, not}
 use mathlib.Core.List.{List, [], _∷_, _++_}
 use mathlib.Core.Option.{Option, none, some}
-use Prim.Native.Nat.{ℕ, zero, suc, _<_}
+use Prim.Native.Nat.{ℕ, zero, suc}
 use lib.Dec.{ltb, leb, eqb}
 use Rattle.rules.specs.Scan.{lowest, highest}
 use Rattle.rules.specs.Rows.{position, name, end}
-use Rattle.rules.specs.Class.{
-  Class, plain, declaration, empty, labeled, stop, break, continue, goto, fallthrough, block, caseBlock, commBlock, if, ifElse, case, defaultCase, comm, defaultComm, switch, typeSwitch, select, for, forCond,
-  oneOf, isBranch, isBreakable, isLoop, class
-}
-use Rattle.rules.specs.Names.{pairCount, nameBytes, sameName, isBlank, rank}
-use Rattle.rules.specs.Scope.{isList, isBlock, around, innermost, listOf, inListOf}
+use Rattle.rules.specs.Class.{Class, declaration, labeled, break, continue, goto, fallthrough, oneOf, isBranch, isBreakable, isLoop, class}
+use Rattle.rules.specs.Names.{pairCount, sameName, isBlank, rank}
+use Rattle.rules.specs.Scope.{isBlock, around, innermost, listOf, inListOf}
 
 -- a sheet row: code, then position and name number of the row reported, then other
 pub record Fault : Type 0 where
@@ -40,12 +36,23 @@ is o r = elim o [ none ↦ false | some k ↦ eqb k r ]
 abbrev pub isClass : List ℕ → Class → ℕ → Bool
 isClass w c r = oneOf (c ∷ []) (class w r)
 
+-- rows r and s carry the same name
+abbrev pub sameNames : List ℕ → List ℕ → List ℕ → ℕ → ℕ → Bool
+sameNames w p b r s = sameName p b (name w r) (name w s)
+
+-- break needs the target's own statement to be of kind 15, 16, 18, 19 or 20, continue 19 or 20
+abbrev pub needs : Class → Class → Bool
+needs c s = elim (oneOf (break ∷ []) c) [ true ↦ isBreakable s | false ↦ isLoop s ]
+
+-- a row as a binding word
+abbrev pub word : Option ℕ → ℕ
+word o = elim o [ none ↦ 0 | some r ↦ suc r ]
+
+abbrev pub fault : List ℕ → ℕ → ℕ → Fault
+fault w code r = record { code = code; position = position w r; name = name w r; other = 0 }
+
 module _ (w p b : List ℕ) (root : ℕ) where
   -- ---- labels
-
-  -- rows r and s carry the same name
-  abbrev pub sameNames : ℕ → ℕ → Bool
-  sameNames r s = sameName p b (name w r) (name w s)
 
   -- r is a label of this body, not `_`
   unfoldable pub isLabel : ℕ → Bool
@@ -53,7 +60,7 @@ module _ (w p b : List ℕ) (root : ℕ) where
 
   -- r is a label with the name that row g carries
   unfoldable pub labels : ℕ → ℕ → Bool
-  labels g r = isLabel r && sameNames r g
+  labels g r = isLabel r && sameNames w p b r g
 
   -- the declared label of the name that row g carries: the first
   unfoldable pub declared : ℕ → Option ℕ
@@ -98,16 +105,10 @@ module _ (w p b : List ℕ) (root : ℕ) where
   unfoldable pub target : ℕ → Option ℕ
   target g = highest (λ t. around w root g t && (labels g t && (lastInRun t && inBlockOf t g))) g
 
-  -- break needs the target's own statement to be of kind 15, 16, 18, 19 or 20, continue 19 or 20
-  abbrev pub needs : Class → Class → Bool
-  needs c s = elim (oneOf (break ∷ []) c) [ true ↦ isBreakable s | false ↦ isLoop s ]
-
   unfoldable pub validTarget : ℕ → Bool
   validTarget g = elim (target g) [ none ↦ false | some t ↦ needs (class w g) (class w (suc t)) ]
 
   -- ---- bindings: one word a row, 1 + the label's row, else 0
-  abbrev pub word : Option ℕ → ℕ
-  word o = elim o [ none ↦ 0 | some r ↦ suc r ]
 
   -- a break or continue with a label
   unfoldable pub labelledBreak : ℕ → Bool
@@ -115,13 +116,17 @@ module _ (w p b : List ℕ) (root : ℕ) where
 
   unfoldable pub binding : ℕ → ℕ
   binding r =
-    elim (isLabel r) [ true ↦ elim (is (declared r) r) [ true ↦ suc r | false ↦ 0 ] | false ↦
-    elim (leb root r && isClass w goto r) [ true ↦ word (gotoLabel r) | false ↦
-    elim (labelledBreak r && validTarget r) [ true ↦ word (declared r) | false ↦ 0 ] ] ]
+      elim (isLabel r) [
+        | true ↦ elim (is (declared r) r) [ true ↦ suc r | false ↦ 0 ]
+        | false ↦
+            elim (leb root r && isClass w goto r) [
+              | true ↦ word (gotoLabel r)
+              | false ↦
+                  elim (labelledBreak r && validTarget r) [ true ↦ word (declared r) | false ↦ 0 ]
+            ]
+      ]
 
   -- ---- the sheet
-  abbrev pub fault : ℕ → ℕ → Fault
-  fault code r = record { code = code; position = position w r; name = name w r; other = 0 }
 
   -- 3: the goto g, resolved at the label r, jumps over a variable declaration
   unfoldable pub jumpsOver : ℕ → ℕ → List Fault
@@ -132,18 +137,24 @@ module _ (w p b : List ℕ) (root : ℕ) where
 
   -- 1 and 2: the label r is not the declared one of its name
   unfoldable pub repeated : ℕ → List Fault
-  repeated r = elim (declared r) [ none ↦ [] | some d ↦ elim (eqb d r) [ true ↦ [] | false ↦ fault 1 r ∷ fault 2 d ∷ [] ] ]
+  repeated r = elim (declared r) [ none ↦ [] | some d ↦ elim (eqb d r) [ true ↦ [] | false ↦ fault w 1 r ∷ fault w 2 d ∷ [] ] ]
 
   -- what is reported when the walk comes to row r
   unfoldable pub report : ℕ → List Fault
   report r =
-    elim (isLabel r) [ true ↦ repeated r ++ each (jumpsOver r) r | false ↦
-    elim (labelledBreak r) [ true ↦ only (not (validTarget r)) (fault (elim (isClass w break r) [ true ↦ 4 | false ↦ 5 ]) r) | false ↦
-    only (leb root r && (isClass w fallthrough r && ltb 0 (name w r))) (fault 6 r) ] ]
+      elim (isLabel r) [
+        | true ↦ repeated r ++ each (jumpsOver r) r
+        | false ↦
+            elim (labelledBreak r) [
+              | true ↦ only (not (validTarget r)) (fault w (elim (isClass w break r) [ true ↦ 4 | false ↦ 5 ]) r)
+              | false ↦
+                  only (leb root r && (isClass w fallthrough r && ltb 0 (name w r))) (fault w 6 r)
+            ]
+      ]
 
   -- 7 and 8: a goto that is pending at the end
   unfoldable pub unresolved : ℕ → List Fault
-  unresolved g = only (pending (end w root) g) (fault (elim (isSome (declared g)) [ true ↦ 7 | false ↦ 8 ]) g)
+  unresolved g = only (pending (end w root) g) (fault w (elim (isSome (declared g)) [ true ↦ 7 | false ↦ 8 ]) g)
 
   -- a declared label is used if some branch is bound to it or a 7 names it
   unfoldable pub used : ℕ → Bool
@@ -155,7 +166,7 @@ module _ (w p b : List ℕ) (root : ℕ) where
 
   -- 9: declared but not used
   unfoldable pub unused : ℕ → List Fault
-  unused c = elim (declaredAt c) [ none ↦ [] | some d ↦ only (not (used d)) (fault 9 d) ]
+  unused c = elim (declaredAt c) [ none ↦ [] | some d ↦ only (not (used d)) (fault w 9 d) ]
 
   -- rows in order, then what is pending, then what is unused, by name bytes
   unfoldable pub sheet : List Fault

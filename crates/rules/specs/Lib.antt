@@ -9,3 +9,6 @@ pub mod Labels
 pub mod Placing
 pub mod Verdict
 pub mod Runner
+pub mod Calls
+pub mod Law
+pub mod Bodies

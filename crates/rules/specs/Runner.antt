@@ -9,11 +9,35 @@ use lib.Dec.{ltb, leb, eqb}
 use Rattle.rules.specs.Scan.{highest}
 use Rattle.rules.specs.Rows.{name, size, end}
 use Rattle.rules.specs.Class.{
-  Class, plain, declaration, empty, labeled, stop, break, continue, goto, fallthrough, block, caseBlock, commBlock, if, ifElse, case, defaultCase, comm, defaultComm, switch, typeSwitch, select, for, forCond,
-  isLoop, class
+  Class,
+  plain,
+  declaration,
+  empty,
+  labeled,
+  stop,
+  break,
+  continue,
+  goto,
+  fallthrough,
+  block,
+  caseBlock,
+  commBlock,
+  if,
+  ifElse,
+  case,
+  defaultCase,
+  comm,
+  defaultComm,
+  switch,
+  typeSwitch,
+  select,
+  for,
+  forCond,
+  isLoop,
+  class,
 }
-use Rattle.rules.specs.Scope.{around, innermost, nextCase}
-use Rattle.rules.specs.Labels.{isSome, declared}
+use Rattle.rules.specs.Scope.{isList, around, innermost, nextCase}
+use Rattle.rules.specs.Labels.{declared}
 use Rattle.rules.specs.Verdict.{labelOn, refersTo, hasDefault}
 
 -- a row, stopped, or the closing brace
@@ -26,14 +50,7 @@ pub data Onward : Type 0 where
   again next up : Onward
 
 abbrev pub onward : Class → Onward
-onward c = elim c [
-  | plain ↦ up | declaration ↦ up | empty ↦ up | labeled ↦ up | stop ↦ up
-  | break ↦ up | continue ↦ up | goto ↦ up | fallthrough ↦ up
-  | block ↦ next | caseBlock ↦ up | commBlock ↦ up | if ↦ up | ifElse ↦ up
-  | case ↦ next | defaultCase ↦ next | comm ↦ next | defaultComm ↦ next
-  | switch ↦ up | typeSwitch ↦ up | select ↦ up
-  | for ↦ again | forCond ↦ again
-]
+onward c = elim (isLoop c) [ true ↦ again | false ↦ elim (isList c) [ true ↦ next | false ↦ up ] ]
 
 -- a place that a branch goes to, as a state
 abbrev pub via : (ℕ → State) → Option ℕ → Option State
@@ -43,7 +60,21 @@ via f o = elim o [ none ↦ none | some s ↦ some (f s) ]
 abbrev pub pick : {A : Type 0} → ℕ → A → A → A
 pick c x y = elim c [ zero ↦ y | suc d ↦ x ]
 
-module _ (w p b : List ℕ) (root : ℕ) where
+module _ (w : List ℕ) where
+  -- ---- clauses: the i-th item from c on, and how many there are before e; the first argument bounds the steps
+  unfoldable pub itemAt : ℕ → ℕ → ℕ
+  itemAt c zero = c
+  itemAt c (suc i) = itemAt (end w c) i
+
+  unfoldable pub itemCount : ℕ → ℕ → ℕ → ℕ
+  itemCount zero e c = 0
+  itemCount (suc f) e c = elim (ltb c e) [ true ↦ suc (itemCount f e (end w c)) | false ↦ 0 ]
+
+  -- how many clauses the switch or Select r has
+  unfoldable pub clauseCount : ℕ → ℕ
+  clauseCount r = itemCount (size w r) (end w r) (suc (suc r))
+
+module _ (w : List ℕ) (root : ℕ) where
   -- ---- going on
 
   -- after s, where no row from k up to s is around s: the next item; past a list's end, after its Block, or after the switch or Select for a clause;
@@ -53,15 +84,16 @@ module _ (w p b : List ℕ) (root : ℕ) where
   climb (suc k) s = elim (around w root s k) [
     | false ↦ climb k s
     | true ↦ elim (onward (class w k)) [
-        | again ↦ at k
-        | next ↦ elim (ltb (end w s) (end w k)) [ true ↦ at (end w s) | false ↦ climb k k ]
-        | up ↦ climb k k
-      ]
+      | again ↦ at k
+      | next ↦ elim (ltb (end w s) (end w k)) [ true ↦ at (end w s) | false ↦ climb k k ]
+      | up ↦ climb k k
+    ]
   ]
 
   unfoldable pub after : ℕ → State
   after s = climb s s
 
+module _ (w p b : List ℕ) (root : ℕ) where
   -- ---- where branches go
 
   -- break goes on after the statement it refers to
@@ -79,60 +111,68 @@ module _ (w p b : List ℕ) (root : ℕ) where
   unfoldable pub gotoTo : ℕ → Option ℕ
   gotoTo g = declared w p b root g
 
-  -- ---- clauses: the i-th item from c on, and how many there are before e; the first argument bounds the steps
-  unfoldable pub itemAt : ℕ → ℕ → ℕ
-  itemAt c zero = c
-  itemAt c (suc i) = itemAt (end w c) i
-
-  unfoldable pub itemCount : ℕ → ℕ → ℕ → ℕ
-  itemCount zero e c = 0
-  itemCount (suc f) e c = elim (ltb c e) [ true ↦ suc (itemCount f e (end w c)) | false ↦ 0 ]
-
-  -- how many clauses the switch or Select r has
-  unfoldable pub clauseCount : ℕ → ℕ
-  clauseCount r = itemCount (size w r) (end w r) (suc (suc r))
-
   -- ---- the choices open at row r, and one step by choice c
 
   abbrev pub choicesAs : Class → ℕ → ℕ
   choicesAs c r = elim c [
-    | plain ↦ 1 | declaration ↦ 1 | empty ↦ 1 | labeled ↦ 1 | stop ↦ 1
-    | break ↦ 1 | continue ↦ 1 | goto ↦ 1 | fallthrough ↦ 1
-    | block ↦ 1 | caseBlock ↦ 0 | commBlock ↦ 0
-    | if ↦ 2 | ifElse ↦ 2
-    | case ↦ 1 | defaultCase ↦ 1 | comm ↦ 1 | defaultComm ↦ 1
-    | switch ↦ elim (hasDefault w p b root r) [ true ↦ clauseCount r | false ↦ suc (clauseCount r) ]
-    | typeSwitch ↦ elim (hasDefault w p b root r) [ true ↦ clauseCount r | false ↦ suc (clauseCount r) ]
-    | select ↦ elim (clauseCount r) [ zero ↦ 1 | suc n ↦ suc n ]
-    | for ↦ 1 | forCond ↦ 2
+    | plain ↦ 1
+    | declaration ↦ 1
+    | empty ↦ 1
+    | labeled ↦ 1
+    | stop ↦ 1
+    | break ↦ 1
+    | continue ↦ 1
+    | goto ↦ 1
+    | fallthrough ↦ 1
+    | block ↦ 1
+    | caseBlock ↦ 0
+    | commBlock ↦ 0
+    | if ↦ 2
+    | ifElse ↦ 2
+    | case ↦ 1
+    | defaultCase ↦ 1
+    | comm ↦ 1
+    | defaultComm ↦ 1
+    | switch ↦ elim (hasDefault w r) [ true ↦ clauseCount w r | false ↦ suc (clauseCount w r) ]
+    | typeSwitch ↦ elim (hasDefault w r) [ true ↦ clauseCount w r | false ↦ suc (clauseCount w r) ]
+    | select ↦ elim (clauseCount w r) [ zero ↦ 1 | suc n ↦ suc n ]
+    | for ↦ 1
+    | forCond ↦ 2
   ]
 
   -- the first item of a list, or past the list's end
   abbrev pub enter : ℕ → State
-  enter r = elim (ltb 1 (size w r)) [ true ↦ at (suc r) | false ↦ after r ]
+  enter r = elim (ltb 1 (size w r)) [ true ↦ at (suc r) | false ↦ after w root r ]
 
   -- the clause of that number, or y past the last
   abbrev pub clause : ℕ → ℕ → State → State
-  clause r c y = elim (ltb c (clauseCount r)) [ true ↦ at (itemAt (suc (suc r)) c) | false ↦ y ]
+  clause r c y = elim (ltb c (clauseCount w r)) [ true ↦ at (itemAt w (suc (suc r)) c) | false ↦ y ]
 
   abbrev pub stepAs : Class → ℕ → ℕ → Option State
   stepAs k r c = elim k [
-    | plain ↦ some (after r) | declaration ↦ some (after r) | empty ↦ some (after r)
+    | plain ↦ some (after w root r)
+    | declaration ↦ some (after w root r)
+    | empty ↦ some (after w root r)
     | labeled ↦ some (at (suc r))
     | stop ↦ some stopped
-    | break ↦ via after (breakTo r)
+    | break ↦ via (after w root) (breakTo r)
     | continue ↦ via at (continueTo r)
     | goto ↦ via at (gotoTo r)
     | fallthrough ↦ via at (nextCase w root r)
-    | block ↦ some (enter r) | caseBlock ↦ none | commBlock ↦ none
-    | if ↦ some (pick c (at (suc r)) (after r))
+    | block ↦ some (enter r)
+    | caseBlock ↦ none
+    | commBlock ↦ none
+    | if ↦ some (pick c (at (suc r)) (after w root r))
     | ifElse ↦ some (pick c (at (suc r)) (at (end w (suc r))))
-    | case ↦ some (enter r) | defaultCase ↦ some (enter r) | comm ↦ some (enter r) | defaultComm ↦ some (enter r)
-    | switch ↦ some (clause r c (after r))
-    | typeSwitch ↦ some (clause r c (after r))
+    | case ↦ some (enter r)
+    | defaultCase ↦ some (enter r)
+    | comm ↦ some (enter r)
+    | defaultComm ↦ some (enter r)
+    | switch ↦ some (clause r c (after w root r))
+    | typeSwitch ↦ some (clause r c (after w root r))
     | select ↦ some (clause r c stopped)
     | for ↦ some (at (suc r))
-    | forCond ↦ some (pick c (at (suc r)) (after r))
+    | forCond ↦ some (pick c (at (suc r)) (after w root r))
   ]
 
   unfoldable pub choices : State → ℕ

@@ -44,10 +44,10 @@ module _ (w : List ℕ) (root : ℕ) where
   nextCase r = elim (listOf r) [
     | none ↦ none
     | some c ↦ elim (isCase (class w c)) [
-        | false ↦ none
-        | true ↦ elim (innermost (oneOf (caseBlock ∷ [])) c) [
-            | none ↦ none
-            | some s ↦ elim (ltb (end w c) (end w s)) [ true ↦ some (end w c) | false ↦ none ]
-          ]
+      | false ↦ none
+      | true ↦ elim (innermost (oneOf (caseBlock ∷ [])) c) [
+        | none ↦ none
+        | some s ↦ elim (ltb (end w c) (end w s)) [ true ↦ some (end w c) | false ↦ none ]
       ]
+    ]
   ]

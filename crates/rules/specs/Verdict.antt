@@ -8,29 +8,39 @@ use lib.Dec.{ltb, leb, eqb}
 use Rattle.rules.specs.Scan.{lowest}
 use Rattle.rules.specs.Rows.{name, size, end}
 use Rattle.rules.specs.Class.{
-  Class, plain, declaration, empty, labeled, stop, break, continue, goto, fallthrough, block, caseBlock, commBlock, if, ifElse, case, defaultCase, comm, defaultComm, switch, typeSwitch, select, for, forCond,
-  oneOf, isBreakable, class
+  Class,
+  plain,
+  declaration,
+  empty,
+  labeled,
+  stop,
+  break,
+  continue,
+  goto,
+  fallthrough,
+  block,
+  caseBlock,
+  commBlock,
+  if,
+  ifElse,
+  case,
+  defaultCase,
+  comm,
+  defaultComm,
+  switch,
+  typeSwitch,
+  select,
+  for,
+  forCond,
+  oneOf,
+  isBreakable,
+  class,
 }
 use Rattle.rules.specs.Scope.{around, innermost, onlyEmpty}
 use Rattle.rules.specs.Labels.{isSome, is, isClass, sameNames}
 
-module _ (w p b : List ℕ) (root : ℕ) where
-  -- ---- what a break refers to
-
-  -- the label directly on s, `_` too, has the name that row g carries
-  unfoldable pub labelOn : ℕ → ℕ → Bool
-  labelOn g s = elim s [ zero ↦ false | suc t ↦ leb root t && (isClass w labeled t && sameNames w p b root t g) ]
-
-  -- the break g, inside s, refers to s: unlabelled with s the innermost of kinds 15, 16, 18, 19, 20 around it, or naming the label directly on s
-  unfoldable pub refersTo : ℕ → ℕ → Bool
-  refersTo g s = (isBreakable (class w s) && (ltb s g && around w root g s))
-    && elim (eqb (name w g) 0) [ true ↦ is (innermost w root isBreakable g) s | false ↦ labelOn g s ]
-
-  -- some break refers to s
-  unfoldable pub hasBreak : ℕ → Bool
-  hasBreak s = isSome (lowest (λ g. isClass w break g && refersTo g s) (end w s))
-
-  -- ---- clauses: the items from c on, before e; the first argument bounds the steps
+module _ (w : List ℕ) where
+  -- some item from c on, before e, is a default clause; the first argument bounds the steps
   unfoldable pub anyDefault : ℕ → ℕ → ℕ → Bool
   anyDefault zero e c = false
   anyDefault (suc f) e c = elim (ltb c e) [ true ↦ oneOf (defaultCase ∷ defaultComm ∷ []) (class w c) || anyDefault f e (end w c) | false ↦ false ]
@@ -39,16 +49,37 @@ module _ (w p b : List ℕ) (root : ℕ) where
   unfoldable pub hasDefault : ℕ → Bool
   hasDefault r = anyDefault (size w r) (end w r) (suc (suc r))
 
+module _ (w p b : List ℕ) (root : ℕ) where
+  -- ---- what a break refers to
+
+  -- the label directly on s, `_` too, has the name that row g carries
+  unfoldable pub labelOn : ℕ → ℕ → Bool
+  labelOn g s = elim s [ zero ↦ false | suc t ↦ leb root t && (isClass w labeled t && sameNames w p b t g) ]
+
+  -- the break g, inside s, refers to s: unlabelled with s the innermost of kinds 15, 16, 18, 19, 20 around it, or naming the label directly on s
+  unfoldable pub refersTo : ℕ → ℕ → Bool
+  refersTo g s = (isBreakable (class w s) && (ltb s g && around w root g s))
+      && elim (eqb (name w g) 0) [ true ↦ is (innermost w root isBreakable g) s | false ↦ labelOn g s ]
+
+  -- some break refers to s
+  unfoldable pub hasBreak : ℕ → Bool
+  hasBreak s = isSome (lowest (λ g. isClass w break g && refersTo g s) (end w s))
+
   -- ---- the rules; the first argument bounds the depth of calls
   unfoldable mutual
     -- the statement r is terminating
     pub terminating : ℕ → ℕ → Bool
     terminating zero r = false
     terminating (suc f) r = elim (class w r) [
-      | plain ↦ false | declaration ↦ false | empty ↦ false
+      | plain ↦ false
+      | declaration ↦ false
+      | empty ↦ false
       | labeled ↦ terminating f (suc r)
       | stop ↦ true
-      | break ↦ false | continue ↦ false | goto ↦ true | fallthrough ↦ true
+      | break ↦ false
+      | continue ↦ false
+      | goto ↦ true
+      | fallthrough ↦ true
       | block ↦ terminatingList f (end w r) (suc r)
       | caseBlock ↦ terminatingClauses f (end w r) (suc r)
       | commBlock ↦ terminatingClauses f (end w r) (suc r)
@@ -58,8 +89,8 @@ module _ (w p b : List ℕ) (root : ℕ) where
       | defaultCase ↦ terminatingList f (end w r) (suc r)
       | comm ↦ terminatingList f (end w r) (suc r)
       | defaultComm ↦ terminatingList f (end w r) (suc r)
-      | switch ↦ (hasDefault r && not (hasBreak r)) && terminating f (suc r)
-      | typeSwitch ↦ (hasDefault r && not (hasBreak r)) && terminating f (suc r)
+      | switch ↦ (hasDefault w r && not (hasBreak r)) && terminating f (suc r)
+      | typeSwitch ↦ (hasDefault w r && not (hasBreak r)) && terminating f (suc r)
       | select ↦ not (hasBreak r) && terminating f (suc r)
       | for ↦ not (hasBreak r)
       | forCond ↦ false
