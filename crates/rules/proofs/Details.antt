@@ -7,7 +7,7 @@ use Prim.Native.Nat.{ℕ, zero, suc, _<_, _≤_}
 use native.Mathlib.Omega.{arith}
 use lib.Dec.{ltb, leb, eqb}
 use lib.ListN.{length, getD, List·getD-eq-default}
-use borrow.Author.Tests.{eqb-true, ltb-true, ltb-false, leb-true, lt-ltb, le-ltb, le-leb, lt-leb, eq-eqb, ne-eqb}
+use borrow.Author.Tests.{eqb-true, ltb-true, ltb-false, leb-true, le-ltb, le-leb, lt-leb, ne-eqb}
 use Rattle.rules.specs.Scan.{lowest}
 use Rattle.rules.specs.Class.{Class, labeled, goto, classes, detailAllowed, classOf, oneOf, isBranch}
 use Rattle.rules.specs.Refusals.{nameAllowed}
@@ -30,9 +30,12 @@ allowed-small k d a = case-of (ltb k 21)
     (λ f. let z : false ≡ true = sym (past-kinds k d (ltb-false k 21 f)) ∙ a in absurd (clash (cc)))
 
 -- a list of how many details each kind allows decides as the table does
-pub by-entries : (l : List ℕ) (k d : ℕ) → k < 21 → every 21 (λ j. eqb (getD l j 0) (length (getD classes j []))) ≡ true → ltb d (getD l k 0) ≡ detailAllowed k d
+pub by-entries : (l : List ℕ) (k d : ℕ) → k < 21 → every 21 (λ j. eqb (getD l j 0) (length (getD classes j []))) ≡ true →
+    ltb d (getD l k 0) ≡ detailAllowed k d
 unfolding detailAllowed
-by-entries l k d h e = ap (ltb d) (eqb-true (getD l k 0) (length (getD classes k [])) (every-at 21 (λ j. eqb (getD l j 0) (length (getD classes j []))) e k h))
+by-entries l k d h e =
+    let s = every-at 21 (λ j. eqb (getD l j 0) (length (getD classes j []))) e k h in
+    ap (ltb d) (eqb-true (getD l k 0) (length (getD classes k [])) s)
 
 -- a rule of all allowed kinds and details
 pub of-allowed : (P : ℕ → ℕ → Bool) → every 21 (λ k. every 4 (λ d. implies (detailAllowed k d) (P k d))) ≡ true →
@@ -90,4 +93,5 @@ module _ (k d p n : ℕ) (a : detailAllowed k d ≡ true) (h : n ≤ p) where
   branch-name e f = has-name-or-not (classOf k d) p n h (must-of k d a ∙ rw (e, ne-eqb d 2 f) refl) (may-of k d a ∙ rw e refl)
 
   pub other-name : (k ≡ 3 → ⊥) → (k ≡ 11 → ⊥) → nameAllowed (classOf k d) p n ≡ eqb n 0
-  other-name e f = has-none (classOf k d) p n h (must-of k d a ∙ rw (ne-eqb k 3 e, ne-eqb k 11 f) refl) (may-of k d a ∙ rw (ne-eqb k 3 e, ne-eqb k 11 f) refl)
+  other-name e f =
+      has-none (classOf k d) p n h (must-of k d a ∙ rw (ne-eqb k 3 e, ne-eqb k 11 f) refl) (may-of k d a ∙ rw (ne-eqb k 3 e, ne-eqb k 11 f) refl)

@@ -3,6 +3,7 @@
 use mathlib.Core.Path.{_≡_, refl, sym, _∙_, ap}
 use mathlib.Core.Bool.{Bool, true, false, not}
 use mathlib.Core.List.{List, [], _∷_}
+use mathlib.Core.Logic.{⊎-elim}
 use mathlib.Core.Option.{Option, none, some}
 use Prim.Native.Nat.{ℕ, _<_}
 use native.Mathlib.Omega.{arith}
@@ -38,7 +39,7 @@ use Rattle.rules.specs.Class.{
   code,
   oneOf,
 }
-use Rattle.rules.proofs.Test.{case-found, clash}
+use Rattle.rules.proofs.Test.{case-found, clash, or-true}
 use Rattle.rules.proofs.Scan.{lowest-none}
 
 -- the test passes at each number below n
@@ -145,3 +146,7 @@ of-classes P e c d =
 -- what passes for one class is that class
 pub is-class : (c d : Class) → eqb (code c) (code d) ≡ true → c ≡ d
 is-class c d e = sym (class-at c) ∙ ap classAt (eqb-true (code c) (code d) e) ∙ class-at d
+
+-- and what is one of one class
+pub is-one : (c d : Class) → oneOf (d ∷ []) c ≡ true → c ≡ d
+is-one c d t = is-class c d (⊎-elim (λ u. u) (λ (u : false ≡ true). absurd (clash (cc))) (or-true (eqb (code c) (code d)) false t))

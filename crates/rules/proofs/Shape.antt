@@ -53,7 +53,7 @@ use Rattle.rules.specs.Class.{
 use Rattle.rules.specs.Refusals.{Holding, nothing, statement, body, branches, statements, cases, comms, holding, mayHold, atLeast, childrenFit, isBody, badShape}
 use Rattle.rules.specs.Body.{Sized, Detailed, fits, OneChild, TwoChildren}
 use Rattle.rules.proofs.Test.{case-of, clash, and-true}
-use Rattle.rules.proofs.Every.{every, every-pair, implies, implied, of-class, of-classes, is-class}
+use Rattle.rules.proofs.Every.{every, every-pair, implies, implied, of-class, of-classes, is-class, is-one}
 use Rattle.rules.proofs.Details.{allowed-small}
 use Rattle.rules.proofs.Nesting.{item-from, item-before, ends-before}
 
@@ -163,13 +163,6 @@ is-body branches t = absurd (clash (cc))
 is-body statements t = absurd (clash (cc))
 is-body cases t = absurd (clash (cc))
 is-body comms t = absurd (clash (cc))
-
-pub is-one : (c d : Class) → oneOf (d ∷ []) c ≡ true → c ≡ d
-is-one c d t = is-class c d (or-or (eqb (code c) (code d)) t)
-  where
-    or-or : (a : Bool) → a || false ≡ true → a ≡ true
-    or-or true u = refl
-    or-or false u = u
 
 -- ---- the facts of a body without a fault of shape
 module _ (w : List ℕ) (sized : Sized w) (detailed : Detailed w) (shaped : (r : ℕ) → r < rowCount w → badShape w r ≡ false) where

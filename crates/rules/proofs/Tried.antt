@@ -3,7 +3,7 @@
 use mathlib.Core.Path.{_≡_, refl}
 use mathlib.Core.List.{List, [], _∷_, _++_}
 use mathlib.Core.Option.{Option, none, some}
-use Prim.Native.Nat.{ℕ}
+use Prim.Native.Nat.{ℕ, zero, suc}
 use Rattle.rules.specs.Names.{nameBytes, rank}
 use Rattle.rules.specs.Refusals.{refusal}
 use Rattle.rules.proofs.Computed.{computed}
@@ -65,10 +65,23 @@ pairs : (refusal (row 12 0 0 1) (0 ∷ []) [] ≡ some (2, 0))
 unfolding computed
 pairs = (refl, refl, refl, refl)
 
--- 3 comes before 4, and 4 before 5
-order : (refusal (row 21 0 0 0) (0 ∷ 0 ∷ []) [] ≡ some (3, 0)) × (refusal (row 12 0 0 0 ++ row 21 0 0 1) [] [] ≡ some (4, 1))
+-- n Blocks, each in the one before, around a last row
+abbrev tower : ℕ → List ℕ → List ℕ
+tower zero last = last
+tower (suc n) last = row 12 0 0 (suc (suc n)) ++ tower n last
+
+-- 3 comes before 4, 4 before 5, and 5 before 6; of two bad rows the first
+order : (refusal (row 21 0 0 0) (0 ∷ 0 ∷ []) [] ≡ some (3, 0))
+    × (refusal (row 12 0 0 0 ++ row 21 0 0 1) [] [] ≡ some (4, 1))
+    × Refused (tower 100 (row 14 0 0 1)) (some (5, 99))
+    × Refused (row 12 0 0 3 ++ row 21 0 0 1 ++ row 21 0 0 1) (some (4, 1))
 unfolding computed
-order = (refl, refl)
+order = (refl, refl, refl, refl)
+
+-- 6: 100 deep pass, and 101 do not
+deep : Refused (tower 99 (row 12 0 0 1)) none × Refused (tower 100 (row 12 0 0 1)) (some (6, 100))
+unfolding computed
+deep = (refl, refl)
 
 -- names: bytes of a number, none for 0 and past the last; ranks by bytes, a prefix first and equal bytes under one rank (`ab`, `a`, `ab`, 0xFF)
 ranks : (nameBytes (0 ∷ 2 ∷ 2 ∷ 1 ∷ []) (97 ∷ 98 ∷ 97 ∷ []) 1 ≡ 97 ∷ 98 ∷ [])

@@ -1,0 +1,150 @@
+// The lent records: the fields of a row, the table of the allowed details, and refusals 1 to 6.
+pub mod depth;
+pub mod details;
+pub mod rows;
+pub mod shape;
+
+use names::Found;
+use rows::RowNumber;
+ghost use mathlib.Core.Path.{_≡_};
+ghost use mathlib.Core.Bool.{Bool, true, false, not};
+ghost use mathlib.Core.Option.{none};
+ghost use Prim.Native.Nat.{ℕ, _<_};
+ghost use Rattle.rules.specs.Scan.{lowest};
+ghost use Rattle.rules.specs.Rows.{rowCount};
+ghost use Rattle.rules.specs.Class.{classOf, detailAllowed};
+ghost use Rattle.rules.specs.Names.{pairCount};
+ghost use Rattle.rules.specs.Refusals.{badRowWords, nameAllowed, badRow, badSize, refusal};
+ghost use Rattle.names.specs.Place.{place};
+ghost use Rattle.body.specs.Given.{given};
+
+// Why a body is refused, in the order in which the causes are tried, or Nothing: well-formed.
+pub enum Refusal {
+    // 1: row words empty, not a multiple of 5, or over 2,000 rows
+    RowWords,
+    // 2: odd pair words, over 500 pairs, or over 8,000 name bytes
+    NameWords,
+    // 3: the first pair, from 0, with length 0, starting before the previous end or ending past the bytes
+    Pair(usize),
+    // 4: the first row whose kind, detail, position or name isn't allowed
+    Row(RowNumber),
+    // 5: the lowest row that breaks the rule for its own kind, parent or size
+    Shape(RowNumber),
+    // 6: the first row over 100 deep
+    Depth(RowNumber),
+    Nothing,
+}
+
+// Cause 1.
+fn bad_row_words(rows: &[u32]) -> bool
+    ensures { λ r. ⌜ r ≡ badRowWords (now (rows .entry)) ⌝ }
+{
+    if rows.len() == 0 {
+        return true;
+    }
+    if rows.len() % 5 != 0 {
+        return true;
+    }
+    2000 < rows.len() / 5
+}
+
+// Whether a row of this kind and detail may have this name: Labeled and goto must have one, other
+// Branches may, the rest have none.
+fn name_allowed(kind: u32, detail: u32, pair_count: usize, name: usize) -> bool
+    requires { ⌜ detailAllowed kind detail ≡ true ⌝ }
+    ensures { λ r. ⌜ r ≡ nameAllowed (classOf kind detail) «pair_count» name ⌝ }
+{
+    if pair_count < name {
+        return false;
+    }
+    if kind == 3 {
+        return name != 0;
+    }
+    if kind == 11 {
+        if detail == 2 {
+            return name != 0;
+        }
+        return true;
+    }
+    name == 0
+}
+
+// Whether the row's kind, detail, position and name are allowed.
+fn row_allowed(rows: &[u32], pairs: &[u32], row: RowNumber) -> bool
+    requires { ⌜ row .0 < rowCount (now rows) ⌝ }
+    ensures { λ r. ⌜ r ≡ not (badRow (now (rows .entry)) (now (pairs .entry)) (row .0)) ⌝ }
+{
+    let kind = rows::kind(rows, row);
+    let detail = rows::detail(rows, row);
+    if !details::detail_allowed(kind, detail) {
+        return false;
+    }
+    if rows::position(rows, row) == 0 {
+        return false;
+    }
+    let name = rows::name(rows, row);
+    name_allowed(kind, detail, pairs.len() / 2, name.0)
+}
+
+// Cause 4.
+fn first_bad_row(rows: &[u32], pairs: &[u32]) -> Found
+    ensures { λ r. ⌜ place r ≡ lowest (badRow (now (rows .entry)) (now (pairs .entry))) (rowCount (now (rows .entry))) ⌝ }
+{
+    let count = rows.len() / 5;
+    let mut r = 0;
+    while r < count {
+        if !row_allowed(rows, pairs, RowNumber(r)) {
+            return Found::At(r);
+        }
+        r += 1;
+    }
+    Found::Nowhere
+}
+
+// Cause 5, first part: a size of 0 or past the last row.
+fn first_bad_size(rows: &[u32]) -> Found
+    ensures { λ r. ⌜ place r ≡ lowest (badSize (now (rows .entry))) (rowCount (now (rows .entry))) ⌝ }
+{
+    let count = rows.len() / 5;
+    let mut r = 0;
+    while r < count {
+        let size = rows::size(rows, RowNumber(r));
+        if size == 0 {
+            return Found::At(r);
+        }
+        if count < r + size {
+            return Found::At(r);
+        }
+        r += 1;
+    }
+    Found::Nowhere
+}
+
+// The refusal of the body, or Nothing where it is well-formed. Each cause is tried over all rows
+// before the next.
+pub fn refusal_of(rows: &[u32], pairs: &[u32], bytes: &[u8]) -> Refusal
+    ensures { λ r. ⌜ given r ≡ refusal (now (rows .entry)) (now (pairs .entry)) (now (bytes .entry)) ⌝ }
+{
+    if bad_row_words(rows) {
+        return Refusal::RowWords;
+    }
+    if names::bad_name_words(pairs, bytes) {
+        return Refusal::NameWords;
+    }
+    if let Found::At(i) = names::first_bad_pair(pairs, bytes) {
+        return Refusal::Pair(i);
+    }
+    if let Found::At(r) = first_bad_row(rows, pairs) {
+        return Refusal::Row(RowNumber(r));
+    }
+    if let Found::At(r) = first_bad_size(rows) {
+        return Refusal::Shape(RowNumber(r));
+    }
+    if let Found::At(r) = shape::first_bad_shape(rows) {
+        return Refusal::Shape(RowNumber(r));
+    }
+    if let Found::At(r) = depth::first_too_deep(rows) {
+        return Refusal::Depth(RowNumber(r));
+    }
+    Refusal::Nothing
+}

@@ -1,0 +1,4 @@
+pub mod Elements
+pub mod Merging
+pub mod Ranking
+pub mod Halves

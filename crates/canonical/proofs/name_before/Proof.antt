@@ -1,0 +1,36 @@
+-- `canonical::name_before` meets its contract. The two parts are the names' bytes, and `bytes_before` compares them.
+-- Assumes nothing.
+use borrow.Author.Needs.{needs}
+use Rattle.canonical.proofs.name_before.Statement.{statement}
+use Rattle.canonical.proofs.name_before.Tie as tie
+
+wide-requires : tie.Need-wide-requires
+wide-requires c κs = search needs
+
+name-part-requires : tie.Need-name-part-requires
+name-part-requires c κs = search needs
+
+wide-requires-2 : tie.Need-wide-requires-2
+wide-requires-2 c κs = search needs
+
+name-part-requires-2 : tie.Need-name-part-requires-2
+name-part-requires-2 c κs = search needs
+
+bytes-before-requires : tie.Need-bytes-before-requires
+bytes-before-requires c κs = search needs
+
+returns : tie.Need-returns
+returns c =
+    let x = c .before .before .before in
+    cc (c .bytes-before .ensures, x .name-part .ensures, c .before .name-part2 .ensures, x .before .wide .ensures, c .before .before .wide2 .ensures)
+
+pub name-before-spec : {M : Type 1} → statement M
+name-before-spec =
+    tie.close
+    (tie.spec
+    wide-requires
+    name-part-requires
+    wide-requires-2
+    name-part-requires-2
+    bytes-before-requires
+    returns)

@@ -1,0 +1,339 @@
+// Cause 5.
+use crate::show;
+
+// Size 0; past the last row by one; 4,294,967,295; row 0 that ends early; row 0 that is a For.
+pub fn sizes() {
+    show::title(b"sizes");
+    show::named(&[12u32, 0, 1, 0, 2, 2, 0, 1, 0, 0]);
+    show::named(&[12u32, 0, 1, 0, 2, 2, 0, 1, 0, 2]);
+    show::named(&[12u32, 0, 1, 0, 2, 2, 0, 1, 0, 4294967295]);
+    show::named(&[12u32, 0, 1, 0, 1, 2, 0, 1, 0, 1]);
+    show::named(&[19u32, 0, 1, 0, 2, 12, 0, 1, 0, 1]);
+}
+
+// A Case in a plain Block; a Comm there; a leaf of size 2; a child past its parent's end; a Block
+// in a Block.
+pub fn lists() {
+    show::title(b"lists");
+    show::named(&[12u32, 0, 1, 0, 2, 14, 0, 1, 0, 1]);
+    show::named(&[12u32, 0, 1, 0, 2, 17, 0, 1, 0, 1]);
+    show::named(&[12u32, 0, 1, 0, 3, 10, 0, 1, 0, 2, 2, 0, 1, 0, 1]);
+    show::named(
+        &[
+            12u32,
+            0,
+            1,
+            0,
+            4,
+            12,
+            0,
+            1,
+            0,
+            2,
+            12,
+            0,
+            1,
+            0,
+            2,
+            2,
+            0,
+            1,
+            0,
+            1,
+        ],
+    );
+    show::named(&[12u32, 0, 1, 0, 3, 12, 0, 1, 0, 2, 2, 0, 1, 0, 1]);
+}
+
+// A Labeled without a statement, with two, and on a Case; a For without a Block, with two, and on
+// an Empty; an If with a For for its body; with else and none there; with a For for its else;
+// without else and a second Block; with an If for its else.
+pub fn parts() {
+    show::title(b"parts");
+    show::named(&[12u32, 0, 1, 0, 2, 3, 0, 1, 1, 1]);
+    show::named(
+        &[
+            12u32,
+            0,
+            1,
+            0,
+            4,
+            3,
+            0,
+            1,
+            1,
+            3,
+            2,
+            0,
+            1,
+            0,
+            1,
+            2,
+            0,
+            1,
+            0,
+            1,
+        ],
+    );
+    show::named(&[12u32, 0, 1, 0, 3, 3, 0, 1, 1, 2, 14, 0, 1, 0, 1]);
+    show::named(&[12u32, 0, 1, 0, 2, 19, 0, 1, 0, 1]);
+    show::named(
+        &[
+            12u32,
+            0,
+            1,
+            0,
+            4,
+            19,
+            0,
+            1,
+            0,
+            3,
+            12,
+            0,
+            1,
+            0,
+            1,
+            12,
+            0,
+            1,
+            0,
+            1,
+        ],
+    );
+    show::named(&[12u32, 0, 1, 0, 3, 20, 0, 1, 0, 2, 2, 0, 1, 0, 1]);
+    show::named(
+        &[
+            12u32,
+            0,
+            1,
+            0,
+            4,
+            13,
+            0,
+            1,
+            0,
+            3,
+            19,
+            0,
+            1,
+            0,
+            2,
+            12,
+            0,
+            1,
+            0,
+            1,
+        ],
+    );
+    show::named(&[12u32, 0, 1, 0, 3, 13, 1, 1, 0, 2, 12, 0, 1, 0, 1]);
+    show::named(
+        &[
+            12u32,
+            0,
+            1,
+            0,
+            5,
+            13,
+            1,
+            1,
+            0,
+            4,
+            12,
+            0,
+            1,
+            0,
+            1,
+            19,
+            0,
+            1,
+            0,
+            2,
+            12,
+            0,
+            1,
+            0,
+            1,
+        ],
+    );
+    show::named(
+        &[
+            12u32,
+            0,
+            1,
+            0,
+            4,
+            13,
+            0,
+            1,
+            0,
+            3,
+            12,
+            0,
+            1,
+            0,
+            1,
+            12,
+            0,
+            1,
+            0,
+            1,
+        ],
+    );
+    show::named(
+        &[
+            12u32,
+            0,
+            1,
+            0,
+            5,
+            13,
+            1,
+            1,
+            0,
+            4,
+            12,
+            0,
+            1,
+            0,
+            1,
+            13,
+            0,
+            1,
+            0,
+            2,
+            12,
+            0,
+            1,
+            0,
+            1,
+        ],
+    );
+}
+
+// A Comm in a switch; a Case in a Select; a statement in a TypeSwitch's Block; a Switch without its
+// Block before a Block; a switch with a Case, a Select with a default Comm.
+pub fn clauses() {
+    show::title(b"clauses");
+    show::named(
+        &[
+            12u32,
+            0,
+            1,
+            0,
+            4,
+            15,
+            0,
+            1,
+            0,
+            3,
+            12,
+            0,
+            1,
+            0,
+            2,
+            17,
+            0,
+            1,
+            0,
+            1,
+        ],
+    );
+    show::named(
+        &[
+            12u32,
+            0,
+            1,
+            0,
+            4,
+            18,
+            0,
+            1,
+            0,
+            3,
+            12,
+            0,
+            1,
+            0,
+            2,
+            14,
+            0,
+            1,
+            0,
+            1,
+        ],
+    );
+    show::named(
+        &[
+            12u32,
+            0,
+            1,
+            0,
+            4,
+            16,
+            0,
+            1,
+            0,
+            3,
+            12,
+            0,
+            1,
+            0,
+            2,
+            2,
+            0,
+            1,
+            0,
+            1,
+        ],
+    );
+    show::named(&[12u32, 0, 1, 0, 3, 15, 0, 1, 0, 1, 12, 0, 1, 0, 1]);
+    show::named(
+        &[
+            12u32,
+            0,
+            1,
+            0,
+            4,
+            16,
+            0,
+            1,
+            0,
+            3,
+            12,
+            0,
+            1,
+            0,
+            2,
+            14,
+            0,
+            1,
+            0,
+            1,
+        ],
+    );
+    show::named(
+        &[
+            12u32,
+            0,
+            1,
+            0,
+            4,
+            18,
+            0,
+            1,
+            0,
+            3,
+            12,
+            0,
+            1,
+            0,
+            2,
+            17,
+            1,
+            1,
+            0,
+            1,
+        ],
+    );
+}

@@ -1,0 +1,33 @@
+// Printing.
+use body::Refusal;
+use libc::STDOUT_FILENO;
+
+pub fn title(text: &[u8]) {
+    io::write_all(STDOUT_FILENO, text);
+    io::write_all(STDOUT_FILENO, b"\n");
+}
+
+fn line(number: u64, index: usize) {
+    io::print_decimal(STDOUT_FILENO, number);
+    io::write_all(STDOUT_FILENO, b" ");
+    io::print_decimal(STDOUT_FILENO, index as u64);
+    io::write_all(STDOUT_FILENO, b"\n");
+}
+
+// The refusal of a body.
+pub fn refusal(rows: &[u32], pairs: &[u32], bytes: &[u8]) {
+    match body::refusal_of(rows, pairs, bytes) {
+        Refusal::RowWords => line(1, 0),
+        Refusal::NameWords => line(2, 0),
+        Refusal::Pair(i) => line(3, i),
+        Refusal::Row(r) => line(4, r.0),
+        Refusal::Shape(r) => line(5, r.0),
+        Refusal::Depth(r) => line(6, r.0),
+        Refusal::Nothing => title(b"ok"),
+    }
+}
+
+// The refusal of rows with the names M (1) and L (2).
+pub fn named(rows: &[u32]) {
+    refusal(rows, &[0u32, 1, 1, 1], b"ML");
+}
