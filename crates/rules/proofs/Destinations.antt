@@ -43,29 +43,11 @@ use Rattle.rules.proofs.Every.{every, implies, implied, of-classes, is-
 use Rattle.rules.proofs.Nesting.{item-before, item-next, ends-before}
 use Rattle.rules.proofs.ClassRules.{class-rule, parent-rule}
 use Rattle.rules.proofs.Around.{around-true, true-around, Innermost, innermost-found, innermost-last, next-case}
+use Rattle.rules.proofs.Found.{is-some}
+use Rattle.rules.proofs.RowNames.{goto-named}
+use Rattle.rules.proofs.LabelRows.{is-declared, labels-label, label-labels, some-declared}
 use Rattle.rules.proofs.Terminating.{label-on, refers-innermost, refers-labelled}
 use Rattle.rules.proofs.Final.{row-of, child-in, parent-in}
-
-some-row : (o : Option ℕ) → isSome o ≡ true → (k : ℕ) × (o ≡ some k)
-some-row none t = absurd (clash (cc))
-some-row (some k) t = (k, refl)
-
--- ---- a goto has a name
-goto-base : (q c : Class) → oneOf (goto ∷ []) (following q c) ≡ true → c ≡ goto
-unfolding every lowest
-goto-base q c t =
-    is-one c goto (implied (oneOf (goto ∷ []) (following q c)) (oneOf (goto ∷ []) c)
-    (of-classes (λ q c. implies (oneOf (goto ∷ []) (following q c)) (oneOf (goto ∷ []) c)) refl q c) t)
-
-goto-own : (w : List ℕ) (r : ℕ) → class w r ≡ goto → base w r ≡ goto
-unfolding class
-goto-own w zero e = e
-goto-own w (suc q) e = goto-base (base w q) (base w (suc q)) (rw e)
-
-goto-named : (pairs n : ℕ) → nameAllowed goto pairs n ≡ true → 0 < n
-unfolding nameAllowed
-goto-named pairs zero t = absurd (let z = and-true (leb 0 pairs) false t .1 in clash (cc))
-goto-named pairs (suc n) t = omega arith
 
 -- ---- rules of the classes
 case-parent : (q c : Class) → isCase c ≡ true → fits q c ≡ true → oneOf (caseBlock ∷ []) q ≡ true
@@ -77,18 +59,6 @@ unfolding every lowest
 branch = class-rule (oneOf (break ∷ continue ∷ [])) isBranch refl
 
 module _ (w p b : List ℕ) (root : ℕ) where
-  -- ---- labels
-  pub labels-row : (g t : ℕ) → labels w p b root g t ≡ true → (root ≤ t) × (class w t ≡ labeled) × (sameNames w p b t g ≡ true)
-  unfolding labels isLabel
-  labels-row g t e =
-      let a = and-true (leb root t && (isClass w labeled t && not (isBlank p b (name w t)))) (sameNames w p b t g) e in
-      let c = and-true (leb root t) (isClass w labeled t && not (isBlank p b (name w t))) (a .0) in
-      (leb-true root t (c .0), is-one (class w t) labeled (and-true (isClass w labeled t) (not (isBlank p b (name w t))) (c .1) .0), a .1)
-
-  pub row-labels : (g t : ℕ) → Label w p b root t → sameNames w p b t g ≡ true → labels w p b root g t ≡ true
-  unfolding labels isLabel
-  row-labels g t d e = rw (le-leb root t (d .row .0), d .labels, d .not-blank, e)
-
   block-between : (t g : ℕ) → inBlockOf w p b root t g ≡ true → suc t < g
   unfolding inBlockOf
   block-between t g e = case-found (innermost w root isBlock g)
@@ -111,11 +81,11 @@ module _ (w p b : List ℕ) (root : ℕ) where
       record { before = m; from = r .0; reaches = r .1; passes = and-true (isLoop (class w s)) (labelOn w p b root g s) (a .1) .0 })
 
   pub goto-to : (g s : ℕ) → gotoTo w p b root g ≡ some s → InBody w root s × (class w s ≡ labeled)
-  unfolding gotoTo declared
+  unfolding gotoTo
   goto-to g s e =
-      let (m, u) = lowest-found (labels w p b root g) (end w root) s e in
-      let (f, k, n) = labels-row g s u in
-      ((f, m), k)
+      let (m, u) = is-declared w p b root g s e in
+      let d = labels-label w p b root g s m u .0 in
+      (d .row, d .labels)
 
 module _ {w p b : List ℕ} (body : Body w p b) (root : ℕ) (l : root < rowCount w) where
   -- ---- the target of a labelled break or continue: its statement is around the branch, and the label is directly on it
@@ -132,10 +102,12 @@ module _ {w p b : List ℕ} (body : Body w p b) (root : ℕ) (l : root < rowCoun
       let a = and-true (around w root g t) (labels w p b root g t && (lastInRun w p b root t && inBlockOf w p b root t g)) u in
       let c = and-true (labels w p b root g t) (lastInRun w p b root t && inBlockOf w p b root t g) (a .1) in
       let d = and-true (lastInRun w p b root t) (inBlockOf w p b root t g) (c .1) in
-      let (f, k, s) = labels-row w p b root g t (c .0) in
+      let (label, same) = labels-label w p b root g t (omega (arith, i .1, m)) (c .0) in
+      let k = label .labels in
+      let f = label .row .0 in
       let o = body .one-statement t (omega (arith, row-of body root l i)) (rw k) in
       let r = around-true w root g t (a .0) .1 in
-      record { from = f; before = block-between w p b root t g (d .1); reaches = omega (arith, o .1); labelled = label-on w p b root g t f k s }
+      record { from = f; before = block-between w p b root t g (d .1); reaches = omega (arith, o .1); labelled = label-on w p b root g t f k same }
 
   target-around : (P : Class → Bool) (g t : ℕ) → Target g t → P (class w (suc t)) ≡ true → Innermost w root P g (suc t)
   target-around P g t d e = record { before = d .before; from = omega (arith, d .from); reaches = d .reaches; passes = e }
@@ -200,7 +172,7 @@ module _ {w p b : List ℕ} (body : Body w p b) (root : ℕ) (l : root < rowCoun
         (λ z.
         let n = eqb-true (name w g) 0 z in
         let t : isSome (innermost w root isBreakable g) ≡ true = rw (e, wellPlaced) at (well-placed g i n) in
-        let (s, f) = some-row (innermost w root isBreakable g) t in
+        let (s, f) = is-some (innermost w root isBreakable g) t in
         (s, innermost-found w root isBreakable g s f .before, refers-innermost w p b root g s n f))
         (λ z.
         let n = named g z in
@@ -219,7 +191,7 @@ module _ {w p b : List ℕ} (body : Body w p b) (root : ℕ) (l : root < rowCoun
     continues g i e = case-of (eqb (name w g) 0)
         (λ z.
         let t : isSome (innermost w root isLoop g) ≡ true = rw (e, wellPlaced, e) at (well-placed g i (eqb-true (name w g) 0 z)) in
-        let (s, f) = some-row (innermost w root isLoop g) t in
+        let (s, f) = is-some (innermost w root isLoop g) t in
         (s, rw (z, continueTo) f))
         (λ z.
         let (t, d, u) = has-target g i (rw e) (named g z) in
@@ -230,14 +202,12 @@ module _ {w p b : List ℕ} (body : Body w p b) (root : ℕ) (l : root < rowCoun
         case-found (highest P g) (λ k f. (k, rw (z, continueTo) f)) (λ f. absurd (let x = highest-none P g (suc t) f (d .before) in clash (cc))))
 
     pub gotos : (g : ℕ) → InBody w root g → class w g ≡ goto → (s : ℕ) × (gotoTo w p b root g ≡ some s)
-    unfolding gotoTo declared
-    gotos g i e =
-        let n = goto-named (pairCount p) (name w g) (rw (goto-own w g e) at (body .named g (row-of body root l i))) in
-        from-lawful (lawful .destinations g i (rw e) n)
+    unfolding gotoTo
+    gotos g i e = from-lawful (lawful .destinations g i (rw e) (goto-named body g (row-of body root l i) e))
       where
         of-label : LawfulLabel w p b root g → (s : ℕ) × (gotoTo w p b root g ≡ some s)
-        of-label (r, d, s, x, y) = case-found (gotoTo w p b root g) (λ k f. (k, f))
-            (λ f. absurd (let z = lowest-none (labels w p b root g) (end w root) r f (d .row .1) in let u = row-labels w p b root g r d s in clash (cc)))
+        of-label (r, d, s, x, y) =
+            let (k, f, h) = some-declared w p b root g r (d .row .1) (label-labels w p b root g r d s) in (k, f)
 
         from-lawful : Lawful w p b root g → (s : ℕ) × (gotoTo w p b root g ≡ some s)
         from-lawful (lawful-break c t) = absurd (clash (cc))
@@ -249,7 +219,7 @@ module _ {w p b : List ℕ} (body : Body w p b) (root : ℕ) (l : root < rowCoun
     falls g i e = case-of (eqb (name w g) 0)
         (λ z.
         let t : endsCase w root g ≡ true = rw (e, wellPlaced, e, e) at (well-placed g i (eqb-true (name w g) 0 z)) in
-        some-row (nextCase w root g)
+        is-some (nextCase w root g)
         (and-true (isSome (nextCase w root g)) (elim (listOf w root g) [ none ↦ false | some c ↦ onlyEmpty w root (suc g) (end w c) ]) t .0))
         (λ z. absurd (from-lawful (lawful .destinations g i (rw e) (named g z))))
       where

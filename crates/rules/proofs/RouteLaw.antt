@@ -16,9 +16,10 @@ use Rattle.rules.specs.Body.{Body}
 use Rattle.rules.specs.Placing.{placing}
 use Rattle.rules.specs.Verdict.{verdict}
 use Rattle.rules.specs.Runner.{State, at, choices, step, Walk, done, go, Route}
-use Rattle.rules.specs.Law.{AllLawful, Safe, All}
+use Rattle.rules.specs.Law.{AllLawful, Safe, All, RouteLaw}
 use Rattle.rules.proofs.Test.{clash}
 use Rattle.rules.proofs.Facts as facts
+use Rattle.rules.proofs.SheetLaw.{sheet-law}
 use Rattle.rules.proofs.Terminating.{verdict-is}
 use Rattle.rules.proofs.Ends.{Ends}
 use Rattle.rules.proofs.Final.{root-in}
@@ -55,3 +56,7 @@ pub routes-safe : (w p b : List ℕ) → WellFormed w p b → AllLawful w p b 0 
 routes-safe w p b wf lawful v placed =
     let body = facts.body w p b wf in
     routes-safe-from body 0 (body .some-rows) (suc (size w 0 + size w 0), sym (verdict-is w p b 0) ∙ v) lawful placed (rw (body .root-class))
+
+-- the second half of the handbook's law: an empty sheet has all labels and labelled branches lawful
+pub route-law : (w p b : List ℕ) → RouteLaw w p b
+route-law w p b wf empty v placed = routes-safe w p b wf (sheet-law w p b wf .0 empty) v placed
