@@ -3,13 +3,19 @@
 use mathlib.Core.Option.{Option, none, some}
 use Prim.Native.Nat.{ℕ}
 use Rattle.body.specs.declared.Refusal.{Refusal}
-use Rattle.body.specs.declared.Refusal.the-variants.{RowWords, NameWords, Pair, Row, Shape, Depth, Nothing}
+use Rattle.body.specs.declared.Refusal.the-variants.{RowWords, NameWords, Pair, Row, Shape, Depth}
+use Rattle.body.specs.declared.Checked.{Checked}
+use Rattle.body.specs.declared.Checked.the-variants.{Refused, WellFormed}
 
-abbrev pub given : Refusal → Option (ℕ × ℕ)
-given RowWords = some (1, 0)
-given NameWords = some (2, 0)
-given (Pair i) = some (3, i)
-given (Row r) = some (4, r .0)
-given (Shape r) = some (5, r .0)
-given (Depth r) = some (6, r .0)
-given Nothing = none
+-- what a refusal returns
+abbrev pub returned : Refusal → ℕ × ℕ
+returned RowWords = (1, 0)
+returned NameWords = (2, 0)
+returned (Pair i) = (3, i)
+returned (Row r) = (4, r .0)
+returned (Shape r) = (5, r .0)
+returned (Depth r) = (6, r .0)
+
+abbrev pub given : Checked → Option (ℕ × ℕ)
+given (Refused r) = some (returned r)
+given WellFormed = none

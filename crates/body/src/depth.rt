@@ -1,8 +1,7 @@
 // Cause 6: the first row over 100 deep. A row's depth is the rows begun up to it less those ended:
 // one pass that counts the rows by where they end.
-use crate::rows;
-use crate::rows::RowNumber;
 use names::Found;
+use rows::RowNumber;
 ghost use mathlib.Core.Path.{_≡_};
 ghost use Prim.Native.Nat.{_≤_};
 ghost use Rattle.rules.specs.Rows.{rowCount};

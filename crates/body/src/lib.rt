@@ -1,8 +1,5 @@
-// The lent records: the fields of a row, the table of the allowed details, and refusals 1 to 6.
+// Refusals 1 to 6 of the lent records, and with them whether a body is well-formed.
 pub mod depth;
-pub mod details;
-pub mod rows;
-pub mod shape;
 
 use names::Found;
 use rows::RowNumber;
@@ -18,7 +15,7 @@ ghost use Rattle.rules.specs.Refusals.{badRowWords, nameAllowed, badRow, badSiz
 ghost use Rattle.names.specs.Place.{place};
 ghost use Rattle.body.specs.Given.{given};
 
-// Why a body is refused, in the order in which the causes are tried, or Nothing: well-formed.
+// Why a body is refused, in the order in which the causes are tried.
 pub enum Refusal {
     // 1: row words empty, not a multiple of 5, or over 2,000 rows
     RowWords,
@@ -32,7 +29,12 @@ pub enum Refusal {
     Shape(RowNumber),
     // 6: the first row over 100 deep
     Depth(RowNumber),
-    Nothing,
+}
+
+// Whether a body is refused or well-formed.
+pub enum Checked {
+    Refused(Refusal),
+    WellFormed,
 }
 
 // Cause 1.
@@ -76,7 +78,7 @@ fn row_allowed(rows: &[u32], pairs: &[u32], row: RowNumber) -> bool
 {
     let kind = rows::kind(rows, row);
     let detail = rows::detail(rows, row);
-    if !details::detail_allowed(kind, detail) {
+    if !rows::details::detail_allowed(kind, detail) {
         return false;
     }
     if rows::position(rows, row) == 0 {
@@ -120,31 +122,31 @@ fn first_bad_size(rows: &[u32]) -> Found
     Found::Nowhere
 }
 
-// The refusal of the body, or Nothing where it is well-formed. Each cause is tried over all rows
-// before the next.
-pub fn refusal_of(rows: &[u32], pairs: &[u32], bytes: &[u8]) -> Refusal
+// The first cause that applies to the body, or WellFormed. Each cause is tried over all rows before
+// the next.
+pub fn refusal_of(rows: &[u32], pairs: &[u32], bytes: &[u8]) -> Checked
     ensures { λ r. ⌜ given r ≡ refusal (now (rows .entry)) (now (pairs .entry)) (now (bytes .entry)) ⌝ }
 {
     if bad_row_words(rows) {
-        return Refusal::RowWords;
+        return Checked::Refused(Refusal::RowWords);
     }
     if names::bad_name_words(pairs, bytes) {
-        return Refusal::NameWords;
+        return Checked::Refused(Refusal::NameWords);
     }
     if let Found::At(i) = names::first_bad_pair(pairs, bytes) {
-        return Refusal::Pair(i);
+        return Checked::Refused(Refusal::Pair(i));
     }
     if let Found::At(r) = first_bad_row(rows, pairs) {
-        return Refusal::Row(RowNumber(r));
+        return Checked::Refused(Refusal::Row(RowNumber(r)));
     }
     if let Found::At(r) = first_bad_size(rows) {
-        return Refusal::Shape(RowNumber(r));
+        return Checked::Refused(Refusal::Shape(RowNumber(r)));
     }
     if let Found::At(r) = shape::first_bad_shape(rows) {
-        return Refusal::Shape(RowNumber(r));
+        return Checked::Refused(Refusal::Shape(RowNumber(r)));
     }
     if let Found::At(r) = depth::first_too_deep(rows) {
-        return Refusal::Depth(RowNumber(r));
+        return Checked::Refused(Refusal::Depth(RowNumber(r)));
     }
-    Refusal::Nothing
+    Checked::WellFormed
 }

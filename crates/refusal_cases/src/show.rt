@@ -1,4 +1,5 @@
 // Printing.
+use body::Checked;
 use body::Refusal;
 use libc::STDOUT_FILENO;
 
@@ -14,16 +15,22 @@ fn line(number: u64, index: usize) {
     io::write_all(STDOUT_FILENO, b"\n");
 }
 
-// The refusal of a body.
-pub fn refusal(rows: &[u32], pairs: &[u32], bytes: &[u8]) {
-    match body::refusal_of(rows, pairs, bytes) {
+fn returned(refusal: Refusal) {
+    match refusal {
         Refusal::RowWords => line(1, 0),
         Refusal::NameWords => line(2, 0),
         Refusal::Pair(i) => line(3, i),
         Refusal::Row(r) => line(4, r.0),
         Refusal::Shape(r) => line(5, r.0),
         Refusal::Depth(r) => line(6, r.0),
-        Refusal::Nothing => title(b"ok"),
+    }
+}
+
+// The refusal of a body.
+pub fn refusal(rows: &[u32], pairs: &[u32], bytes: &[u8]) {
+    match body::refusal_of(rows, pairs, bytes) {
+        Checked::Refused(r) => returned(r),
+        Checked::WellFormed => title(b"ok"),
     }
 }
 

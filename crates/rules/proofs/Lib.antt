@@ -38,3 +38,7 @@ pub mod Onward
 pub mod Destinations
 pub mod RouteSteps
 pub mod RouteLaw
+pub mod Steps
+pub mod Traps
+pub mod RunnerBodies
+pub mod LawUsed

@@ -1,4 +1,4 @@
--- Document 01, "Bodies to try": the bodies 1 to 12 as rows, with the names L, M and `_`, each row at the position of its number plus 1.
+-- Document 01, "Bodies to try": the bodies 1 to 12 as rows, with the names L, M and `_`, each row at the position of its number plus 1; then bodies for the runner.
 -- Assumes nothing.
 use mathlib.Core.List.{List, [], _∷_, _++_}
 use Prim.Native.Nat.{ℕ, zero, suc}
@@ -71,6 +71,9 @@ Block s = entry 12 0 0 s
 
 abbrev pub If : ℕ → Entry
 If s = entry 13 0 0 s
+
+abbrev pub IfElse : ℕ → Entry
+IfElse s = entry 13 1 0 s
 
 abbrev pub Case : ℕ → Entry
 Case s = entry 14 0 0 s
@@ -145,3 +148,46 @@ body11s = rowWords (Block 3 ∷ Switch 2 ∷ Block 1 ∷ [])
 -- switch { default: fallthrough }
 abbrev pub body12 : List ℕ
 body12 = rowWords (Block 5 ∷ Switch 4 ∷ Block 3 ∷ Default 2 ∷ Fallthrough ∷ [])
+
+-- ---- bodies for the runner
+
+-- L: for { switch { case: break L; default: return } }; return
+abbrev pub breakFromSwitch : List ℕ
+breakFromSwitch = rowWords
+    (Block 11 ∷ Labeled L 9 ∷ For 8 ∷ Block 7 ∷ Switch 6 ∷ Block 5 ∷ Case 2 ∷ Break L ∷ Default 2 ∷ Return ∷ Return ∷ [])
+
+-- goto L; M: return; L: goto M
+abbrev pub gotoAndBack : List ℕ
+gotoAndBack = rowWords (Block 6 ∷ Goto L ∷ Labeled M 2 ∷ Return ∷ Labeled L 2 ∷ Goto M ∷ [])
+
+-- switch { case: fallthrough; default: return }
+abbrev pub fallIntoDefault : List ℕ
+fallIntoDefault = rowWords (Block 7 ∷ Switch 6 ∷ Block 5 ∷ Case 2 ∷ Fallthrough ∷ Default 2 ∷ Return ∷ [])
+
+-- for { select { comm: return; comm: } }
+abbrev pub selectInLoop : List ℕ
+selectInLoop = rowWords (Block 8 ∷ For 7 ∷ Block 6 ∷ Select 5 ∷ Block 4 ∷ Comm 2 ∷ Return ∷ Comm 1 ∷ [])
+
+-- switch { case: default: return }; return
+abbrev pub pastSwitch : List ℕ
+pastSwitch = rowWords (Block 7 ∷ Switch 5 ∷ Block 4 ∷ Case 1 ∷ Default 2 ∷ Return ∷ Return ∷ [])
+
+-- switch { case: return }; return
+abbrev pub switchGoesOn : List ℕ
+switchGoesOn = rowWords (Block 6 ∷ Switch 4 ∷ Block 3 ∷ Case 2 ∷ Return ∷ Return ∷ [])
+
+-- L: for { for c { continue L } }
+abbrev pub continueOuter : List ℕ
+continueOuter = rowWords (Block 7 ∷ Labeled L 6 ∷ For 5 ∷ Block 4 ∷ ForCond 3 ∷ Block 2 ∷ Continue L ∷ [])
+
+-- if c {}
+abbrev pub emptyIf : List ℕ
+emptyIf = rowWords (Block 3 ∷ If 2 ∷ Block 1 ∷ [])
+
+-- goto L
+abbrev pub gotoNowhere : List ℕ
+gotoNowhere = rowWords (Block 2 ∷ Goto L ∷ [])
+
+-- a For without its Block, which is refused
+abbrev pub forAlone : List ℕ
+forAlone = rowWords (For 1 ∷ [])
