@@ -1,6 +1,7 @@
 // Row numbers, the five words of a row (kind, detail, position, name, size), and the table of the
 // allowed details.
 pub mod details;
+pub mod kinds;
 
 use names::NameNumber;
 ghost use mathlib.Core.Path.{_≡_};

@@ -8,7 +8,7 @@ use lib.Dec.{eqb}
 use lib.ListN.{getD}
 use borrow.Author.Tests.{eqb-true, ne-eqb}
 use Rattle.rules.specs.Scan.{lowest}
-use Rattle.rules.specs.Class.{Class, block, if, ifElse, select, oneOf, isSwitch, isCase, isComm, isStatement, detailAllowed, classOf}
+use Rattle.rules.specs.Class.{Class, block, if, ifElse, select, oneOf, isSwitch, isLoop, isBreakable, isCase, isComm, isStatement, detailAllowed, classOf}
 use Rattle.rules.specs.Refusals.{Holding, nothing, statement, body, branches, statements, cases, comms, holding, mayHold}
 use Rattle.rules.proofs.Every.{every, same, same-eq, implies, implied}
 use Rattle.rules.proofs.Details.{of-allowed}
@@ -66,6 +66,14 @@ module _ (k d : ℕ) (a : detailAllowed k d ≡ true) where
   pub kind-select : eqb k 18 ≡ oneOf (select ∷ []) (classOf k d)
   unfolding every lowest detailAllowed classOf
   kind-select = by-kind (λ j. eqb j 18) (oneOf (select ∷ [])) refl k d a
+
+  pub kind-loop : among (19 ∷ 20 ∷ []) k ≡ isLoop (classOf k d)
+  unfolding every lowest detailAllowed classOf
+  kind-loop = by-kind (among (19 ∷ 20 ∷ [])) isLoop refl k d a
+
+  pub kind-breakable : among (20 ∷ 19 ∷ 18 ∷ 16 ∷ 15 ∷ []) k ≡ isBreakable (classOf k d)
+  unfolding every lowest detailAllowed classOf
+  kind-breakable = by-kind (among (20 ∷ 19 ∷ 18 ∷ 16 ∷ 15 ∷ [])) isBreakable refl k d a
 
 -- ---- what stands below the row, compared by number
 abbrev holdingNumber : Holding → ℕ

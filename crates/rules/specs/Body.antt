@@ -21,6 +21,10 @@ pub record Sized (w : List ℕ) : Type 0 where
 abbrev pub Detailed : List ℕ → Type 0
 Detailed w = (r : ℕ) → r < rowCount w → detailAllowed (kind w r) (detail w r) ≡ true
 
+-- what begins in a row ends in it
+abbrev pub Nested : List ℕ → Type 0
+Nested w = (r q : ℕ) → r < rowCount w → r < q → q < end w r → end w q ≤ end w r
+
 -- which class may stand directly below which
 abbrev pub fits : Class → Class → Bool
 fits p c = elim (holding p) [
@@ -53,8 +57,7 @@ pub record Body (w p b : List ℕ) : Type 0 where
   -- row 0 is a Block of all rows
   pub root-class : class w 0 ≡ block
   pub root-size : size w 0 ≡ rowCount w
-  -- what begins in a row ends in it
-  pub nested : (r q : ℕ) → r < rowCount w → r < q → q < end w r → end w q ≤ end w r
+  pub nested : Nested w
   -- a child and its parent
   pub child-fits : (r c : ℕ) → r < rowCount w → Child w r c → fits (class w r) (class w c) ≡ true
   pub child-within : (r c : ℕ) → r < rowCount w → Child w r c → end w c ≤ end w r
