@@ -49,6 +49,15 @@ pub fn name(rows: &[u32], row: RowNumber) -> NameNumber
     NameNumber(wide(rows[at]))
 }
 
+// The name's number as the row's own word.
+pub fn name_word(rows: &[u32], row: RowNumber) -> u32
+    requires { ⌜ row .0 < rowCount (now rows) ⌝ }
+    ensures { λ r. ⌜ r ≡ name (now (rows .entry)) (row .0) ⌝ }
+{
+    let at = row.0 * 5 + 3;
+    rows[at]
+}
+
 pub fn size(rows: &[u32], row: RowNumber) -> usize
     requires { ⌜ row .0 < rowCount (now rows) ⌝ }
     ensures { λ r. ⌜ r ≡ size (now (rows .entry)) (row .0) ⌝ }

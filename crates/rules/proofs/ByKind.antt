@@ -8,7 +8,8 @@ use lib.Dec.{eqb}
 use lib.ListN.{getD}
 use borrow.Author.Tests.{eqb-true, ne-eqb}
 use Rattle.rules.specs.Scan.{lowest}
-use Rattle.rules.specs.Class.{Class, block, if, ifElse, select, oneOf, isSwitch, isLoop, isBreakable, isCase, isComm, isStatement, detailAllowed, classOf}
+use Rattle.rules.specs.Class.{Class, empty, block, if, ifElse, select, oneOf, isBranch, isSwitch, isLoop, isBreakable, isCase, isComm, isStatement, detailAllowed, classOf}
+use Rattle.rules.specs.Scope.{holdsItems}
 use Rattle.rules.specs.Refusals.{Holding, nothing, statement, body, branches, statements, cases, comms, holding, mayHold}
 use Rattle.rules.proofs.Every.{every, same, same-eq, implies, implied}
 use Rattle.rules.proofs.Details.{of-allowed}
@@ -66,6 +67,18 @@ module _ (k d : ℕ) (a : detailAllowed k d ≡ true) where
   pub kind-select : eqb k 18 ≡ oneOf (select ∷ []) (classOf k d)
   unfolding every lowest detailAllowed classOf
   kind-select = by-kind (λ j. eqb j 18) (oneOf (select ∷ [])) refl k d a
+
+  pub kind-items : among (12 ∷ 14 ∷ 17 ∷ []) k ≡ holdsItems (classOf k d)
+  unfolding every lowest detailAllowed classOf
+  kind-items = by-kind (among (12 ∷ 14 ∷ 17 ∷ [])) holdsItems refl k d a
+
+  pub kind-empty : eqb k 2 ≡ oneOf (empty ∷ []) (classOf k d)
+  unfolding every lowest detailAllowed classOf
+  kind-empty = by-kind (λ j. eqb j 2) (oneOf (empty ∷ [])) refl k d a
+
+  pub kind-jump : eqb k 11 ≡ isBranch (classOf k d)
+  unfolding every lowest detailAllowed classOf
+  kind-jump = by-kind (λ j. eqb j 11) isBranch refl k d a
 
   pub kind-loop : among (19 ∷ 20 ∷ []) k ≡ isLoop (classOf k d)
   unfolding every lowest detailAllowed classOf

@@ -30,7 +30,7 @@ use Rattle.rules.specs.Class.{
 }
 use Rattle.rules.specs.Names.{pairCount, isBlank}
 use Rattle.rules.specs.Refusals.{nameAllowed}
-use Rattle.rules.specs.Body.{Body, fits}
+use Rattle.rules.specs.Body.{Body}
 use Rattle.rules.specs.Scope.{isBlock, isList, around, innermost, listOf, nextCase, onlyEmpty}
 use Rattle.rules.specs.Labels.{isSome, isClass, sameNames, needs, isLabel, labels, declared, lastInRun, inBlockOf, target}
 use Rattle.rules.specs.Placing.{endsCase, wellPlaced, badlyPlaced, placing}
@@ -40,20 +40,17 @@ use Rattle.rules.specs.Law.{Label, LawfulTarget, LawfulLabel, Lawful, la
 use Rattle.rules.proofs.Test.{case-of, case-found, clash, and-true}
 use Rattle.rules.proofs.Scan.{lowest-none, lowest-found, highest-found, highest-none}
 use Rattle.rules.proofs.Every.{every, implies, implied, of-classes, is-one}
-use Rattle.rules.proofs.Nesting.{item-before, item-next, ends-before}
-use Rattle.rules.proofs.ClassRules.{class-rule, parent-rule}
-use Rattle.rules.proofs.Around.{around-true, true-around, Innermost, innermost-found, innermost-last, next-case}
+use Rattle.rules.proofs.Nesting.{item-next}
+use Rattle.rules.proofs.ClassRules.{class-rule}
+use Rattle.rules.proofs.Around.{around-true, true-around, Innermost, innermost-found, next-case}
 use Rattle.rules.proofs.Found.{is-some}
 use Rattle.rules.proofs.RowNames.{goto-named}
 use Rattle.rules.proofs.LabelRows.{is-declared, labels-label, label-labels, some-declared}
 use Rattle.rules.proofs.Terminating.{label-on, refers-innermost, refers-labelled}
+use Rattle.rules.proofs.Lists.{case-parent, parent-innermost}
 use Rattle.rules.proofs.Final.{row-of, child-in, parent-in}
 
 -- ---- rules of the classes
-case-parent : (q c : Class) → isCase c ≡ true → fits q c ≡ true → oneOf (caseBlock ∷ []) q ≡ true
-unfolding every lowest
-case-parent = parent-rule isCase (oneOf (caseBlock ∷ [])) refl
-
 branch : (c : Class) → oneOf (break ∷ continue ∷ []) c ≡ true → isBranch c ≡ true
 unfolding every lowest
 branch = class-rule (oneOf (break ∷ continue ∷ [])) isBranch refl
@@ -119,14 +116,11 @@ module _ {w p b : List ℕ} (body : Body w p b) (root : ℕ) (l : root < rowCoun
       → (class w k ≡ caseBlock) × InBody w root k × Child w k c
   case-home c k i t e =
       let home = innermost-found w root (oneOf (caseBlock ∷ [])) c k e in
-      let lt = home .before in
-      let (j, q, m, d) = parent-in body root l c i (omega (arith, home .from)) in
+      let (j, q, m, d) = parent-in body root l c i (omega (arith, home .from, home .before)) in
       let jn = row-of body root l q in
       let u = case-parent (class w j) (class w c) t (body .child-fits j c jn d) in
-      let at-home : Innermost w root (oneOf (caseBlock ∷ [])) c j = record { before = m; from = q .0; reaches = item-before d; passes = u } in
-      let high : (k < j) → ⊥ = λ h. innermost-last w root (oneOf (caseBlock ∷ [])) c k j e h at-home in
-      let low : (j < k) → ⊥ = λ h. omega (arith, home .reaches, ends-before (body .sized) (body .child-within) (body .sized .within j jn) d k h lt) in
-      let same : j ≡ k = omega arith in
+      let f = parent-innermost body root (oneOf (caseBlock ∷ [])) j c (q .0) jn d u in
+      let same : j ≡ k = cc in
       rw (← same) (is-one (class w j) caseBlock u, q, d)
 
   -- so the next Case is an item of it too

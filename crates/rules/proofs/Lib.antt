@@ -35,6 +35,7 @@ pub mod Going
 pub mod Ends
 pub mod Final
 pub mod Onward
+pub mod Lists
 pub mod Destinations
 pub mod RouteSteps
 pub mod RouteLaw

@@ -1,13 +1,13 @@
 -- The verdict's rules, one law for each rule of a row, of a list and of the clauses, and what a break refers to. Nobody else opens these definitions.
 -- Assumes nothing.
-use mathlib.Core.Path.{_≡_, refl}
+use mathlib.Core.Path.{_≡_, refl, _∙_, ap}
 use mathlib.Core.Bool.{Bool, true, false, _&&_, _||_, not}
 use mathlib.Core.List.{List, [], _∷_}
 use mathlib.Core.Option.{some}
 use Prim.Native.Nat.{ℕ, zero, suc, _+_, _≤_, _<_}
 use native.Mathlib.Omega.{arith}
-use lib.Dec.{ltb, eqb}
-use borrow.Author.Tests.{ltb-true, lt-ltb, le-ltb, le-leb, eq-eqb, ne-eqb}
+use lib.Dec.{ltb, leb, eqb}
+use borrow.Author.Tests.{ltb-true, eqb-true, lt-ltb, le-ltb, le-leb, eq-eqb, ne-eqb}
 use Rattle.rules.specs.Scan.{lowest}
 use Rattle.rules.specs.Rows.{name, size, end}
 use Rattle.rules.specs.Class.{
@@ -88,6 +88,15 @@ module _ (w p b : List ℕ) (root : ℕ) where
   unfolding labelOn
   label-on g t h e s = rw (le-leb root t h, e, s)
 
+  -- it is the label of the row before
+  pub on-label : (g s : ℕ) → labelOn w p b root g s ≡ true → (t : ℕ) × (s ≡ suc t) × (class w t ≡ labeled) × (sameNames w p b t g ≡ true)
+  unfolding labelOn
+  on-label g zero t = absurd (clash (cc))
+  on-label g (suc q) t =
+      let x = and-true (leb root q) (isClass w labeled q && sameNames w p b q g) t in
+      let y = and-true (isClass w labeled q) (sameNames w p b q g) (x .1) in
+      (q, refl, is-one (class w q) labeled (y .0), y .1)
+
   -- of the statements around it that a break may leave, the break refers to s
   abbrev chosen : ℕ → ℕ → Bool
   chosen g s = elim (eqb (name w g) 0) [ true ↦ is (innermost w root isBreakable g) s | false ↦ labelOn w p b root g s ]
@@ -112,6 +121,21 @@ module _ (w p b : List ℕ) (root : ℕ) where
   -- with one, to the statement around it on which the label is
   pub refers-labelled : (g s : ℕ) → 0 < name w g → Innermost w root isBreakable g s → labelOn w p b root g s ≡ true → refersTo w p b root g s ≡ true
   refers-labelled g s n i e = refers g s i (rw (ne-eqb (name w g) 0 (λ z. omega arith), chosen) e)
+
+  -- and what it says of the two
+  refers-chosen : (g s : ℕ) → refersTo w p b root g s ≡ true → chosen g s ≡ true
+  unfolding refersTo
+  refers-chosen g s t = and-true (isBreakable (class w s) && (ltb s g && around w root g s)) (chosen g s) t .1
+
+  pub innermost-refers : (g s : ℕ) → refersTo w p b root g s ≡ true → name w g ≡ 0 → innermost w root isBreakable g ≡ some s
+  innermost-refers g s t n =
+      let u : is (innermost w root isBreakable g) s ≡ true = rw (eq-eqb (name w g) 0 n, chosen) at (refers-chosen g s t) in
+      case-found (innermost w root isBreakable g)
+      (λ k f. let z : eqb k s ≡ true = rw (f, is) at u in f ∙ ap some (eqb-true k s z))
+      (λ f. let z : false ≡ true = rw (f, is) at u in absurd (clash (cc)))
+
+  pub label-refers : (g s : ℕ) → refersTo w p b root g s ≡ true → 0 < name w g → labelOn w p b root g s ≡ true
+  label-refers g s t n = rw (ne-eqb (name w g) 0 (λ z. omega arith), chosen) at (refers-chosen g s t)
 
   pub no-break : (s g : ℕ) → hasBreak w p b root s ≡ false → g < end w s → class w g ≡ break → refersTo w p b root g s ≡ true → ⊥
   unfolding hasBreak

@@ -1,7 +1,7 @@
 -- Where a row stands: the rows around it, the list that it is in, what is left behind it there. All notions that look upward are scans over row numbers.
 -- The body is the one at the row `root`, which today is row 0.
 -- Assumes nothing.
-use mathlib.Core.Bool.{Bool, true, false, _&&_, not}
+use mathlib.Core.Bool.{Bool, true, false, _&&_, _||_, not}
 use mathlib.Core.List.{List, [], _∷_}
 use mathlib.Core.Option.{Option, none, some}
 use Prim.Native.Nat.{ℕ, zero, suc}
@@ -17,6 +17,10 @@ isList = oneOf (block ∷ case ∷ defaultCase ∷ comm ∷ defaultComm ∷ [])
 -- kind 12
 abbrev pub isBlock : Class → Bool
 isBlock = oneOf (block ∷ caseBlock ∷ commBlock ∷ [])
+
+-- kinds 12, 14 and 17: the rows that hold items, statements or clauses
+abbrev pub holdsItems : Class → Bool
+holdsItems c = isBlock c || isList c
 
 module _ (w : List ℕ) (root : ℕ) where
   -- of the rows before r, k is one around r: of this body, and not ended at r

@@ -1,0 +1,68 @@
+// The list of each row: the innermost Block, Case or Comm around it, in one pass.
+use rows::RowNumber;
+ghost use mathlib.Core.Path.{_≡_};
+ghost use mathlib.Core.Bool.{true};
+ghost use Prim.Native.Nat.{ℕ, _≤_, _<_};
+ghost use lib.ListN.{length};
+ghost use Rattle.rules.specs.Rows.{rowCount};
+ghost use Rattle.rules.specs.Class.{detailAllowed, classOf};
+ghost use Rattle.rules.specs.Scope.{holdsItems, innermost};
+ghost use Rattle.rules.specs.Labels.{word};
+ghost use Rattle.rules.specs.Body.{Sized, Detailed, Nested};
+ghost use Rattle.lists.specs.Listed.{Open, ListedBelow, Listed};
+
+fn wide(number: u16) -> usize
+    ensures { λ r. ⌜ r ≡ number ⌝ }
+{
+    number as usize
+}
+
+// Whether a row of this kind holds items: Block, Case or Comm.
+fn holds_items(kind: u32) -> bool
+    ensures { λ r. ⌜ ((d : ℕ) → detailAllowed kind d ≡ true → r ≡ holdsItems (classOf kind d)) ⌝ }
+{
+    if kind == 12 {
+        return true;
+    }
+    if kind == 14 {
+        return true;
+    }
+    kind == 17
+}
+
+// The first of `list` (1 + its row, or 0 for none) and the rows around it that hold items that
+// reaches past row r.
+fn still_open(rows: &[u32], lists: &[u16], list: usize, r: usize) -> usize
+    requires { ⌜ Sized (now rows) × Open (now rows) list r × ListedBelow (now rows) (now lists) r ⌝ }
+    requires { ⌜ (r < rowCount (now rows)) × (rowCount (now rows) ≤ length (now lists)) ⌝ }
+    ensures { λ o. ⌜ o ≡ word (innermost (now (rows .entry)) 0 holdsItems r) ⌝ }
+{
+    let mut open = list;
+    while 0 < open {
+        let row = open - 1;
+        if r < row + rows::size(rows, RowNumber(row)) {
+            return open;
+        }
+        open = wide(lists[row]);
+    }
+    0
+}
+
+// Writes 1 + the innermost Block, Case or Comm around each row, or 0 where there is none.
+pub fn lists_of(rows: &[u32], lists: &mut [u16])
+    requires { ⌜ Sized (now rows) × Detailed (now rows) × Nested (now rows) ⌝ }
+    requires { ⌜ (rowCount (now rows) ≤ 2000) × (rowCount (now rows) ≤ length (now lists)) ⌝ }
+    ensures { λ _. ⌜ Listed (now (rows .entry)) (now (lists .exit)) ⌝ }
+{
+    let count = rows.len() / 5;
+    let mut list = 0;
+    let mut r = 0;
+    while r < count {
+        list = still_open(rows, lists, list, r);
+        lists[r] = list as u16;
+        if holds_items(rows::kind(rows, RowNumber(r))) {
+            list = r + 1;
+        }
+        r += 1;
+    }
+}

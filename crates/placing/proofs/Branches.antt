@@ -1,0 +1,77 @@
+-- A Branch is well placed by its detail, which says its class; every other row is well placed; a row with a name is not badly placed.
+-- Assumes nothing.
+use mathlib.Core.Path.{_≡_, refl, sym, _∙_, ap}
+use mathlib.Core.Bool.{true, false, not, and-false}
+use mathlib.Core.List.{List, [], _∷_}
+use Prim.Native.Nat.{ℕ}
+use native.Mathlib.Omega.{arith}
+use lib.Dec.{eqb}
+use borrow.Author.Tests.{ne-eqb, le-leb}
+use Rattle.rules.specs.Rows.{kind, detail, name}
+use Rattle.rules.specs.Class.{Class, break, continue, goto, fallthrough, oneOf, isBranch, isBreakable, isLoop, isStatement, detailAllowed, classOf, base, class}
+use Rattle.rules.specs.Scope.{innermost}
+use Rattle.rules.specs.Labels.{isSome}
+use Rattle.rules.specs.Placing.{endsCase, wellPlaced, badlyPlaced}
+use Rattle.rules.proofs.Test.{clash}
+use Rattle.rules.proofs.Details.{allowed-small}
+use Rattle.rules.proofs.ByKind.{NoneOf, kind-jump}
+use Rattle.rules.proofs.Classes.{no-block}
+use Rattle.rules.proofs.ClassTests.{one-not}
+use Rattle.rules.proofs.Lists.{own-branch, by-words}
+
+-- ---- a Branch, by its detail
+module _ (w : List ℕ) (r d : ℕ) (a : detailAllowed (kind w r) (detail w r) ≡ true) (k : kind w r ≡ 11) (i : d ≡ detail w r) where
+  branch-class : (n : ℕ) → d ≡ n → class w r ≡ classOf 11 n
+  unfolding base
+  branch-class n e = no-block w r a (ap (λ (m : ℕ). eqb m 12) k) ∙ ap (λ (m : ℕ). classOf m (detail w r)) k ∙ ap (classOf 11) (sym i ∙ e)
+
+  pub place-break : d ≡ 0 → isSome (innermost w 0 isBreakable r) ≡ wellPlaced w 0 r
+  unfolding classOf wellPlaced
+  place-break e = let b : class w r ≡ break = branch-class 0 e in rw (b, wellPlaced)
+
+  pub place-continue : d ≡ 1 → isSome (innermost w 0 isLoop r) ≡ wellPlaced w 0 r
+  unfolding classOf wellPlaced
+  place-continue e = let b : class w r ≡ continue = branch-class 1 e in rw (b, wellPlaced, b)
+
+  pub place-fallthrough : d ≡ 3 → endsCase w 0 r ≡ wellPlaced w 0 r
+  unfolding classOf wellPlaced
+  place-fallthrough e = let b : class w r ≡ fallthrough = branch-class 3 e in rw (b, wellPlaced, b, b)
+
+  pub statement-fallthrough : d ≡ 3 → isStatement (class w r) ≡ true
+  unfolding classOf
+  statement-fallthrough e = let b : class w r ≡ fallthrough = branch-class 3 e in rw b
+
+  pub place-goto : NoneOf (3 ∷ 1 ∷ 0 ∷ []) d → true ≡ wellPlaced w 0 r
+  unfolding classOf wellPlaced
+  place-goto n =
+      let s = allowed-small (kind w r) (detail w r) a .1 in
+      let x = n .1 in
+      let y = n .0 .1 in
+      let z = n .0 .0 .1 in
+      let e : d ≡ 2 = omega arith in
+      let b : class w r ≡ goto = branch-class 2 e in
+      rw (b, wellPlaced, b, b)
+
+-- ---- every row
+other-class : (c d : Class) → isBranch c ≡ false → isBranch d ≡ true → oneOf (d ∷ []) c ≡ false
+other-class c d n t = one-not c d (λ e. let u : isBranch c ≡ true = rw e t in clash (cc))
+
+module _ (w : List ℕ) (r : ℕ) where
+  well-not-bad : wellPlaced w 0 r ≡ true → false ≡ badlyPlaced w 0 r
+  unfolding badlyPlaced
+  well-not-bad t = rw (t, badlyPlaced, and-false)
+
+  pub other-not-bad : (k : ℕ) → k ≡ kind w r → detailAllowed (kind w r) (detail w r) ≡ true → (k ≡ 11 → ⊥) → false ≡ badlyPlaced w 0 r
+  unfolding wellPlaced
+  other-not-bad k e a n =
+      let b = sym (by-words isBranch w r k (eqb k 11) (own-branch w r) e a (λ d x. kind-jump k d x)) ∙ ne-eqb k 11 n in
+      let c = class w r in
+      well-not-bad (rw (other-class c break b refl, wellPlaced, other-class c continue b refl, other-class c fallthrough b refl))
+
+  pub named-not-bad : (n : ℕ) → n ≡ name w r → (n ≡ 0 → ⊥) → false ≡ badlyPlaced w 0 r
+  unfolding badlyPlaced
+  named-not-bad n e z = rw (le-leb 0 r (omega arith), ← e, ne-eqb n 0 z, badlyPlaced)
+
+  pub not-well-bad : (n : ℕ) → n ≡ name w r → n ≡ 0 → not (wellPlaced w 0 r) ≡ badlyPlaced w 0 r
+  unfolding badlyPlaced
+  not-well-bad n e z = rw (le-leb 0 r (omega arith), ← e, z, badlyPlaced)

@@ -1,0 +1,107 @@
+-- Where a fallthrough ends a Case, read from the words that name each row's list:
+-- its list is the innermost row around it that holds items, and so is the Block around a Case.
+-- Assumes nothing.
+use mathlib.Core.Path.{_≡_, refl, sym, _∙_, ap}
+use mathlib.Core.Bool.{true, false}
+use mathlib.Core.List.{List, [], _∷_}
+use mathlib.Core.Option.{Option, none, some}
+use Prim.Native.Nat.{ℕ, _+_, _-_, _≤_, _<_}
+use native.Mathlib.Omega.{arith}
+use native.Mathlib.Decide.{ℕ-discrete}
+use native.Mathlib.Numerals.{add-one}
+use lib.Dec.{eqb}
+use lib.ListN.{getD}
+use borrow.Author.Tests.{eqb-true, eq-eqb, lt-ltb, le-ltb}
+use Rattle.rules.specs.Rows.{rowCount, kind, detail, end}
+use Rattle.rules.specs.Class.{empty, caseBlock, oneOf, isCase, isStatement, detailAllowed, class}
+use Rattle.rules.specs.Scope.{isList, innermost, listOf, onlyEmpty, nextCase}
+use Rattle.rules.specs.Labels.{word}
+use Rattle.rules.specs.Placing.{endsCase}
+use Rattle.rules.proofs.Test.{case-of, clash}
+use Rattle.rules.proofs.Every.{is-one}
+use Rattle.rules.proofs.ByKind.{kind-case, kind-empty}
+use Rattle.rules.proofs.Around.{AllEmpty, innermost-found, only-empty}
+use Rattle.rules.proofs.Lists.{own-case, own-empty, by-words, statement-list, case-home}
+use Rattle.placing.specs.Reach.{FormedLists}
+
+-- ---- Empty rows, by their kind
+module _ (w : List ℕ) (r k : ℕ) (e : k ≡ kind w r) (a : detailAllowed (kind w r) (detail w r) ≡ true) where
+  is-empty : eqb k 2 ≡ oneOf (empty ∷ []) (class w r)
+  is-empty = by-words (oneOf (empty ∷ [])) w r k (eqb k 2) (own-empty w r) e a (λ d x. kind-empty k d x)
+
+  pub empty-row : k ≡ 2 → class w r ≡ empty
+  empty-row z = is-one (class w r) empty (sym is-empty ∙ eq-eqb k 2 z)
+
+  pub not-only-empty : (c x : ℕ) → (k ≡ 2 → ⊥) → c ≤ r → r < x → false ≡ onlyEmpty w 0 c x
+  not-only-empty c x n h l = case-of (onlyEmpty w 0 c x)
+      (λ t.
+      let y : oneOf (empty ∷ []) (class w r) ≡ true = rw (only-empty w 0 c x t r h l) in
+      let z = is-empty ∙ y in
+      absurd (n (eqb-true k 2 z)))
+      (λ f. sym f)
+
+  pub case-row : eqb k 14 ≡ isCase (class w r)
+  case-row = by-words isCase w r k (eqb k 14) (own-case w r) e a (λ d x. kind-case k d x)
+
+pub all-more : (w : List ℕ) (c r : ℕ) → AllEmpty w c r → class w r ≡ empty → AllEmpty w c (r + 1)
+all-more w c r a e k h l = elim (ℕ-discrete k r) [ yes y ↦ rw y e | no n ↦ a k h (omega arith) ]
+
+-- ---- the words, as rows
+pub row-none : (o : Option ℕ) (v : ℕ) → v ≡ word o → v ≡ 0 → o ≡ none
+row-none (some k) v e z = absurd (omega arith)
+row-none none v e z = refl
+
+pub row-some : (o : Option ℕ) (v : ℕ) → v ≡ word o → (v ≡ 0 → ⊥) → o ≡ some (v - 1)
+row-some (some k) v e n = let i : k ≡ v - 1 = omega arith in ap some i
+row-some none v e n = absurd (n e)
+
+module _ {w l : List ℕ} (f : FormedLists w l) (r : ℕ) (h : r < rowCount w) where
+  -- a statement's word is its list
+  pub list-word : (v : ℕ) → isStatement (class w r) ≡ true → v ≡ getD l r 0 → v ≡ word (listOf w 0 r)
+  list-word v s e = e ∙ f .listed r h ∙ ap word (sym (statement-list (f .formed .2) 0 r h s))
+
+  -- which is a row before it
+  pub list-before : (c : ℕ) → listOf w 0 r ≡ some c → c < r
+  unfolding listOf
+  list-before c e = innermost-found w 0 isList r c e .before
+
+  -- a Case's word is the Block of its switch
+  pub home-word : (u : ℕ) → isCase (class w r) ≡ true → u ≡ getD l r 0 → u ≡ word (innermost w 0 (oneOf (caseBlock ∷ [])) r)
+  home-word u t e =
+      let body = f .formed .2 in
+      let some-row : 0 < r = elim (ℕ-discrete r 0) [
+        | yes z ↦ let x : false ≡ true = rw (z, body .root-class) at t in absurd (clash (cc))
+        | no n ↦ omega arith
+      ] in
+      e ∙ f .listed r h ∙ ap word (sym (case-home body 0 r (body .some-rows) (omega arith, omega (arith, body .root-size)) some-row t))
+
+-- ---- what ends a Case
+module _ (w : List ℕ) (r : ℕ) where
+  no-next : nextCase w 0 r ≡ none → false ≡ endsCase w 0 r
+  unfolding endsCase
+  no-next e = rw (e, endsCase)
+
+  pub no-list : listOf w 0 r ≡ none → false ≡ endsCase w 0 r
+  unfolding nextCase
+  no-list f = no-next (rw (f, nextCase))
+
+  module _ (c : ℕ) (f : listOf w 0 r ≡ some c) where
+    pub no-case : isCase (class w c) ≡ false → false ≡ endsCase w 0 r
+    unfolding nextCase
+    no-case t = no-next (rw (f, nextCase, t))
+
+    module _ (t : isCase (class w c) ≡ true) where
+      pub no-home : innermost w 0 (oneOf (caseBlock ∷ [])) c ≡ none → false ≡ endsCase w 0 r
+      unfolding nextCase
+      no-home g = no-next (rw (f, nextCase, t, g))
+
+      module _ (s : ℕ) (g : innermost w 0 (oneOf (caseBlock ∷ [])) c ≡ some s) where
+        pub last-case : end w s ≤ end w c → false ≡ endsCase w 0 r
+        unfolding nextCase
+        last-case l = no-next (rw (f, nextCase, t, g, le-ltb (end w c) (end w s) l))
+
+        pub by-rest : end w c < end w s → onlyEmpty w 0 (r + 1) (end w c) ≡ endsCase w 0 r
+        unfolding nextCase endsCase
+        by-rest l =
+            let n : nextCase w 0 r ≡ some (end w c) = rw (f, nextCase, t, g, lt-ltb (end w c) (end w s) l) in
+            rw (add-one, n, endsCase, f)

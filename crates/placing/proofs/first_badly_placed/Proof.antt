@@ -1,0 +1,119 @@
+-- The invariant: no row below r is badly placed, and break_end and loop_end say how far the rows below r reach, of those that a break and a continue need.
+-- The measure is what is left of the count. Assumes nothing.
+use mathlib.Core.Path.{_≡_, sym, _∙_, ap}
+use mathlib.Core.Bool.{false}
+use Prim.Native.Nat.{ℕ, _+_, _-_, _<_}
+use native.Mathlib.Omega.{arith}
+use borrow.Author.Count.{below-none, below-more}
+use Rattle.rules.specs.Rows.{rowCount, end}
+use Rattle.rules.specs.Class.{isBreakable, isLoop}
+use Rattle.rules.specs.Placing.{badlyPlaced, placing}
+use Rattle.rules.proofs.Scan.{found-lowest, none-lowest}
+use Rattle.rules.proofs.Lists.{own-breakable, own-loop, by-words}
+use Rattle.placing.specs.Reach.{Reach}
+use Rattle.placing.proofs.Reaching.{reach-none, reach-more}
+use Rattle.placing.proofs.first_badly_placed.Statement.{statement}
+use Rattle.placing.proofs.first_badly_placed.Tie as tie
+
+abbrev Inv-loop : tie.InvT-loop
+Inv-loop rows lists count break-end₀ loop-end₀ r₀ break-end loop-end r =
+    ((k : ℕ) → k < r → badlyPlaced rows 0 k ≡ false) × Reach rows isBreakable r break-end × Reach rows isLoop r loop-end
+
+abbrev μ-loop : tie.MeasureT-loop
+μ-loop rows lists count break-end₀ loop-end₀ r₀ break-end loop-end r = count - r
+
+-- row 0 holds all rows
+whole : (s : tie.Start Inv-loop μ-loop) → end (s .args .rows .now) 0 ≡ rowCount (s .args .rows .now)
+whole s = omega (arith, s .pre .formed .2 .root-size)
+
+loop-holds : tie.Need-loop-holds Inv-loop μ-loop
+loop-holds c = (below-none _, reach-none _ isBreakable, reach-none _ isLoop)
+
+badly-placed-requires : tie.Need-badly-placed-requires Inv-loop μ-loop
+badly-placed-requires c κs =
+    let v = c .before .loop .inv in
+    (c .before .before .before .before .pre, (c .loop-test .taken, (v .1, v .2)))
+
+returns : tie.Need-returns Inv-loop μ-loop
+unfolding placing
+returns c =
+    let l = c .before .before .before in
+    let s = l .before .before .before in
+    let w = s .args .rows .now in
+    sym (found-lowest (badlyPlaced w 0) (end w 0) (l .loop .r) (omega (arith, whole s, c .before .before .loop-test .taken))
+    (sym (c .before .badly-placed .ensures) ∙ c .if1 .taken) (l .loop .inv .0))
+
+kind-requires : tie.Need-kind-requires Inv-loop μ-loop
+kind-requires c κs = c .before .before .loop-test .taken
+
+size-requires : tie.Need-size-requires Inv-loop μ-loop
+size-requires c κs = c .before .before .before .loop-test .taken
+
+add-end : tie.Need-add-end Inv-loop μ-loop
+add-end c =
+    let l = c .before .before .before .before .before in
+    omega (arith, c .size .ensures, l .before .before .before .pre .formed .2 .sized .within (l .loop .r) (c .before .before .before .before .loop-test .taken))
+
+is-breakable-requires : tie.Need-is-breakable-requires Inv-loop μ-loop
+is-breakable-requires c κs = tt
+
+later-end-requires : tie.Need-later-end-requires Inv-loop μ-loop
+later-end-requires c κs = tt
+
+is-loop-requires : tie.Need-is-loop-requires Inv-loop μ-loop
+is-loop-requires c κs = tt
+
+later-end-requires-2 : tie.Need-later-end-requires-2 Inv-loop μ-loop
+later-end-requires-2 c κs = tt
+
+add-r : tie.Need-add-r Inv-loop μ-loop
+add-r c = omega (arith, c .before .before .before .before .before .before .before .before .loop-test .taken)
+
+loop-less : tie.Need-loop-less Inv-loop μ-loop
+loop-less c = omega (arith, c .before .before .before .before .before .before .before .before .loop-test .taken)
+
+loop-again : tie.Need-loop-again Inv-loop μ-loop
+loop-again c =
+    let b = c .before .before .before in
+    let z = b .before in
+    let k = z .before in
+    let t = k .before .before .before in
+    let l = t .before in
+    let s = l .before .before .before in
+    let v = l .loop .inv in
+    let a = s .pre .formed .2 .details (l .loop .r) (t .loop-test .taken) in
+    let e = ap (λ (n : ℕ). l .loop .r + n) (z .size .ensures) in (
+      below-more _ _ (v .0) (sym (k .before .before .badly-placed .ensures) ∙ k .before .if1 .left),
+      reach-more _ isBreakable _ _ _ _ _ (by-words isBreakable _ _ _ _ (own-breakable _ (l .loop .r)) (k .kind .ensures) a (b .is-breakable .ensures)) e (v .1)
+          (c .before .before .later-end .ensures),
+      reach-more _ isLoop _ _ _ _ _ (by-words isLoop _ _ _ _ (own-loop _ (l .loop .r)) (k .kind .ensures) a (c .before .is-loop .ensures)) e (v .2)
+          (c .later-end2 .ensures),
+    )
+
+returns-2 : tie.Need-returns-2 Inv-loop μ-loop
+unfolding placing
+returns-2 c =
+    let l = c .before in
+    let s = l .before .before .before in
+    sym (none-lowest _ _ (λ k h. l .loop .inv .0 k (omega (arith, whole s, c .loop-test .left))))
+
+pub first-badly-placed-spec : {M : Type 1} → statement M
+first-badly-placed-spec =
+    tie.close
+    (tie.spec
+    Inv-loop
+    μ-loop
+    loop-holds
+    badly-placed-requires
+    returns
+    kind-requires
+    size-requires
+    add-end
+    is-breakable-requires
+    later-end-requires
+    is-loop-requires
+    later-end-requires-2
+    add-r
+    loop-less
+    loop-again
+    returns-2)

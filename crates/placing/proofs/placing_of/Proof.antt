@@ -1,0 +1,51 @@
+-- A refusal is handed on; what is not refused is well-formed, so it has the facts of `Body`.
+-- Assumes nothing.
+use mathlib.Core.Path.{_≡_, sym, _∙_, ap}
+use mathlib.Core.List.{List}
+use mathlib.Core.Option.{none, some}
+use Prim.Native.Nat.{ℕ}
+use Rattle.rules.specs.Refusals.{refusal}
+use Rattle.rules.specs.Placing.{placing}
+use Rattle.rules.specs.Calls.{refused, answered, placingCall}
+use Rattle.rules.proofs.Facts.{body}
+use Rattle.body.specs.Given.{given}
+use borrow.Author.Needs.{needs}
+use Rattle.placing.proofs.placing_of.Statement.{statement}
+use Rattle.placing.proofs.placing_of.Tie as tie
+
+module _ (w p b : List ℕ) where
+  call-refused : (x : ℕ × ℕ) → refusal w p b ≡ some x → refused (x .0) (x .1) ≡ placingCall w p b
+  unfolding placingCall
+  call-refused x e = rw (e, placingCall)
+
+  call-answered : refusal w p b ≡ none → answered (placing w 0) ≡ placingCall w p b
+  unfolding placingCall
+  call-answered e = rw (e, placingCall)
+
+-- nothing is refused
+none-refused : (c : tie.After-enum-told) →
+    let s = c .before .before .before .before .before .before .args in refusal (s .rows .now) (s .pairs .now) (s .bytes .now) ≡ none
+none-refused c = sym (c .before .before .refusal-of .ensures) ∙ ap given (c .enum-told .given .1)
+
+refusal-of-requires : tie.Need-refusal-of-requires
+refusal-of-requires c κs = search needs
+
+enum-known-r : tie.Need-enum-known-r
+enum-known-r c = search needs
+
+enum-told : tie.Need-enum-told
+enum-told c = search needs
+
+placed-requires : tie.Need-placed-requires
+placed-requires c κs = (_, _, body _ _ _ (none-refused c))
+
+returns : tie.Need-returns
+returns c = call-refused _ _ _ _ (sym (c .before .before .before .refusal-of .ensures) ∙ ap given (c .before .r .given .1))
+
+returns-2 : tie.Need-returns-2
+returns-2 c = c .placed .ensures ∙ call-answered _ _ _ (none-refused (c .before))
+
+pub placing-of-spec : {M : Type 1} → statement M
+placing-of-spec =
+    tie.close
+    (tie.spec refusal-of-requires enum-known-r enum-told placed-requires returns returns-2)

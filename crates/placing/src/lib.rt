@@ -1,0 +1,176 @@
+// The placing call: the first unlabelled break, continue or fallthrough that is badly placed.
+use body::Checked;
+use body::Refusal;
+use names::Found;
+use rows::RowNumber;
+ghost use mathlib.Core.Path.{_≡_};
+ghost use mathlib.Core.Bool.{true};
+ghost use Prim.Native.Nat.{_≤_, _<_};
+ghost use Rattle.rules.specs.Rows.{rowCount, kind};
+ghost use Rattle.rules.specs.Class.{isBreakable, isLoop, isStatement, class};
+ghost use Rattle.rules.specs.Body.{Detailed};
+ghost use Rattle.rules.specs.Scope.{onlyEmpty};
+ghost use Rattle.rules.specs.Placing.{endsCase, wellPlaced, badlyPlaced, placing};
+ghost use Rattle.rules.specs.Calls.{answered, placingCall};
+ghost use Rattle.names.specs.Place.{place};
+ghost use Rattle.placing.specs.Given.{given};
+ghost use Rattle.placing.specs.Reach.{Formed, FormedLists, Reach, Later};
+
+pub enum Placing {
+    Refused(Refusal),
+    // the first row badly placed
+    Bad(RowNumber),
+    Well,
+}
+
+fn wide(number: u16) -> usize
+    ensures { λ r. ⌜ r ≡ number ⌝ }
+{
+    number as usize
+}
+
+// Nothing but Empty from `from` on, before `end`.
+fn only_empty(rows: &[u32], from: usize, end: usize) -> bool
+    requires { ⌜ Detailed (now rows) × (end ≤ rowCount (now rows)) ⌝ }
+    ensures { λ r. ⌜ r ≡ onlyEmpty (now (rows .entry)) 0 from end ⌝ }
+{
+    let mut k = from;
+    while k < end {
+        if rows::kind(rows, RowNumber(k)) != 2 {
+            return false;
+        }
+        k += 1;
+    }
+    true
+}
+
+// Whether the fallthrough, its labels included, is the last non-Empty item of a Case that isn't the
+// last of its switch.
+fn ends_case(rows: &[u32], lists: &[u16], row: RowNumber) -> bool
+    requires { ⌜ FormedLists (now rows) (now lists) ⌝ }
+    requires { ⌜ (row .0 < rowCount (now rows)) × (isStatement (class (now rows) (row .0)) ≡ true) ⌝ }
+    ensures { λ r. ⌜ r ≡ endsCase (now (rows .entry)) 0 (row .0) ⌝ }
+{
+    let r = row.0;
+    let list = wide(lists[r]);
+    if list == 0 {
+        return false;
+    }
+    let case = list - 1;
+    if rows::kind(rows, RowNumber(case)) != 14 {
+        return false;
+    }
+    let case_end = case + rows::size(rows, RowNumber(case));
+    let block = wide(lists[case]);
+    if block == 0 {
+        return false;
+    }
+    let block_end = block - 1 + rows::size(rows, RowNumber(block - 1));
+    if block_end <= case_end {
+        return false;
+    }
+    only_empty(rows, r + 1, case_end)
+}
+
+// Whether the unlabelled branch is well placed. The rows before it whose kind a break needs end at
+// `break_end` at the latest, those whose kind a continue needs at `loop_end`.
+fn well_placed(
+    rows: &[u32],
+    lists: &[u16],
+    row: RowNumber,
+    break_end: usize,
+    loop_end: usize,
+) -> bool
+    requires { ⌜ FormedLists (now rows) (now lists) ⌝ }
+    requires { ⌜ (row .0 < rowCount (now rows)) × (kind (now rows) (row .0) ≡ 11) ⌝ }
+    requires { ⌜ Reach (now rows) isBreakable (row .0) «break_end» × Reach (now rows) isLoop (row .0) «loop_end» ⌝ }
+    ensures { λ r. ⌜ r ≡ wellPlaced (now (rows .entry)) 0 (row .0) ⌝ }
+{
+    let detail = rows::detail(rows, row);
+    match detail {
+        0 => row.0 < break_end,
+        1 => row.0 < loop_end,
+        3 => ends_case(rows, lists, row),
+        _ => true,
+    }
+}
+
+// Whether the row is an unlabelled branch that is badly placed.
+fn badly_placed(
+    rows: &[u32],
+    lists: &[u16],
+    row: RowNumber,
+    break_end: usize,
+    loop_end: usize,
+) -> bool
+    requires { ⌜ FormedLists (now rows) (now lists) ⌝ }
+    requires { ⌜ row .0 < rowCount (now rows) ⌝ }
+    requires { ⌜ Reach (now rows) isBreakable (row .0) «break_end» × Reach (now rows) isLoop (row .0) «loop_end» ⌝ }
+    ensures { λ r. ⌜ r ≡ badlyPlaced (now (rows .entry)) 0 (row .0) ⌝ }
+{
+    if rows::kind(rows, row) != 11 {
+        return false;
+    }
+    let name = rows::name(rows, row);
+    if name.0 != 0 {
+        return false;
+    }
+    !well_placed(rows, lists, row, break_end, loop_end)
+}
+
+// The larger of the end so far and the row's end, where the row counts.
+fn later_end(so_far: usize, counts: bool, end: usize) -> usize
+    ensures { λ r. ⌜ Later «so_far» counts end r ⌝ }
+{
+    if counts {
+        if so_far < end {
+            return end;
+        }
+    }
+    so_far
+}
+
+// The first row badly placed.
+pub fn first_badly_placed(rows: &[u32], lists: &[u16]) -> Found
+    requires { ⌜ FormedLists (now rows) (now lists) ⌝ }
+    ensures { λ r. ⌜ place r ≡ placing (now (rows .entry)) 0 ⌝ }
+{
+    let count = rows.len() / 5;
+    let mut break_end = 0;
+    let mut loop_end = 0;
+    let mut r = 0;
+    while r < count {
+        let row = RowNumber(r);
+        if badly_placed(rows, lists, row, break_end, loop_end) {
+            return Found::At(r);
+        }
+        let kind = rows::kind(rows, row);
+        let end = r + rows::size(rows, row);
+        break_end = later_end(break_end, rows::kinds::is_breakable(kind), end);
+        loop_end = later_end(loop_end, rows::kinds::is_loop(kind), end);
+        r += 1;
+    }
+    Found::Nowhere
+}
+
+// The first row badly placed of a well-formed body, or Well; else the refusal.
+pub fn placing_of(rows: &[u32], pairs: &[u32], bytes: &[u8]) -> Placing
+    ensures { λ r. ⌜ given r ≡ placingCall (now (rows .entry)) (now (pairs .entry)) (now (bytes .entry)) ⌝ }
+{
+    match body::refusal_of(rows, pairs, bytes) {
+        Checked::Refused(r) => Placing::Refused(r),
+        Checked::WellFormed => placed(rows),
+    }
+}
+
+fn placed(rows: &[u32]) -> Placing
+    requires { ⌜ Formed (now rows) ⌝ }
+    ensures { λ r. ⌜ given r ≡ answered (placing (now (rows .entry)) 0) ⌝ }
+{
+    let mut lists = [0u16; 2000];
+    lists::lists_of(rows, &mut lists);
+    match first_badly_placed(rows, &lists) {
+        Found::At(r) => Placing::Bad(RowNumber(r)),
+        Found::Nowhere => Placing::Well,
+    }
+}

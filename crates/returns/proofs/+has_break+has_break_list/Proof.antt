@@ -1,0 +1,268 @@
+use mathlib.Core.Path.{_≡_, refl, sym, _∙_, ap}
+use mathlib.Core.Bool.{Bool, true, false, _||_}
+use mathlib.Core.List.{List}
+use Prim.Native.Nat.{ℕ, suc, _+_, _-_, _*_, _^_, _≤_, _<_}
+use native.Mathlib.Omega.{arith}
+use native.Mathlib.Numerals.{add-one}
+use borrow.Author.Needs.{needs}
+use Rattle.rules.specs.Rows.{rowCount, kind, detail, size, end}
+use Rattle.rules.specs.Class.{isBreakable, detailAllowed, classOf, class}
+use Rattle.rules.specs.Body.{Body}
+use Rattle.rules.proofs.Classes.{row-holding}
+use Rattle.returns.specs.Search.{Closed, leaves, anyLeaves}
+use Rattle.returns.proofs.Ranges.{closed-below, closed-rest, closed-item}
+use Rattle.returns.proofs.Leaving.{any-apart, any-none, any-unnamed, any-leaf, any-below, any-held}
+use Rattle.returns.proofs.ByWords.{breakable-words, other-no-break, branch-kinds}
+use borrow.Fn.Kinds.{In}
+use borrow.Fn.PlainCycle.{Measures, is, falls, and}
+use Rattle.returns.proofs.has_break.Reads as has-break
+use Rattle.returns.proofs.has_break.Kinds as has-break-kinds
+use Rattle.returns.proofs.+has_break+has_break_list.Lts-has_break as has-break-lts
+use Rattle.returns.proofs.has_break_list.Reads as has-break-list
+use Rattle.returns.proofs.has_break_list.Kinds as has-break-list-kinds
+use Rattle.returns.proofs.+has_break+has_break_list.Lts-has_break_list as has-break-list-lts
+use Rattle.returns.proofs.is_break.Reads as is-break-reads
+use Rattle.rows.proofs.kind.Reads as kind-reads
+use Rattle.rows.proofs.kinds.is_breakable.Reads as is-breakable-reads
+use Rattle.rows.proofs.size.Reads as size-reads
+use Rattle.returns.proofs.+has_break+has_break_list.{statement}
+use Rattle.returns.proofs.+has_break+has_break_list.Tie.{close}
+
+-- ---- the search below a row
+module _ {w p b : List ℕ} (body : Body w p b) (r : ℕ) (h : r < rowCount w) where
+  -- a Branch has nothing below it
+  own : kind w r ≡ 11 → (label : ℕ) (implicit : Bool) → leaves w p b r label implicit r ≡ anyLeaves w p b r (end w r) label implicit
+  unfolding classOf
+  own k label implicit = sym (any-leaf w p b r label implicit (body .leaf r h (row-holding w r (body .details r h) 11 k refl refl)))
+
+  -- what `is_breakable` says of a kind k, said of the row of that kind
+  breakable : {k : ℕ} {t u : Bool} → k ≡ kind w r → ((d : ℕ) → detailAllowed k d ≡ true → t ≡ isBreakable (classOf k d)) → t ≡ u → isBreakable (class w r) ≡ u
+  breakable e f g =
+      sym (breakable-words w r (body .details r h)) ∙ rw (← e) (sym (f (detail w r) (rw e (body .details r h)))) ∙ g
+
+  -- its rows are fewer; n is its size as the code read it
+  module _ {n : ℕ} (q : n ≡ size w r) where
+    below : {t : ℕ} → 2 * size w r ≡ t → (2 * ((r + n) - (r + 1)) + 1 < t) × (Body w p b × Closed w (r + 1) (r + n))
+    below e = let x = body .sized .some-rows r h in (omega arith, (body, rw (add-one r, q) (closed-below body r h)))
+
+    module _ (label : ℕ) (implicit : Bool) where
+      -- a row that a break can leave holds the unlabelled ones
+      held : isBreakable (class w r) ≡ true → {t : Bool} → t ≡ anyLeaves w p b (r + 1) (r + n) label false → t ≡ anyLeaves w p b r (end w r) label implicit
+      held k e = e ∙ rw (add-one r, q) (sym (any-held w p b r label implicit k))
+
+      through : isBreakable (class w r) ≡ false → (kind w r ≡ 11 → ⊥) → {t : Bool} → t ≡ anyLeaves w p b (r + 1) (r + n) label implicit
+          → t ≡ anyLeaves w p b r (end w r) label implicit
+      through m k e = e ∙ rw (add-one r, q) (sym (any-below w p b r label implicit (other-no-break w r (body .details r h) k) m))
+
+  unnamed : isBreakable (class w r) ≡ true → (label : ℕ) (implicit : Bool) → label ≡ 0 → false ≡ anyLeaves w p b r (end w r) label implicit
+  unnamed k label implicit z = sym (any-held w p b r label implicit k ∙ rw z (any-unnamed w p b (suc r) (end w r)))
+
+-- ---- the search through a list: what is left, from the item c on, answers as the whole does
+record Walk (w p b : List ℕ) (e label : ℕ) (implicit : Bool) (from c : ℕ) : Type 0 where
+  closed : Closed w c e
+  low : from ≤ c
+  same : anyLeaves w p b c e label implicit ≡ anyLeaves w p b from e label implicit
+
+module _ {w p b : List ℕ} (body : Body w p b) {e label : ℕ} {implicit : Bool} {from : ℕ} where
+  begin : Closed w from e → Walk w p b e label implicit from from
+  begin a = record { closed = a; low = omega arith; same = refl }
+
+  module _ {c : ℕ} (a : Walk w p b e label implicit from c) where
+    ended : e ≤ c → false ≡ anyLeaves w p b from e label implicit
+    ended l = sym (any-none w p b c e label implicit l) ∙ a .same
+
+    module _ (l : c < e) where
+      row : c < rowCount w
+      row = omega (arith, a .closed .within)
+
+      -- the item is no longer than the list
+      item : (t : ℕ) → 2 * (e - from) + 1 ≡ t → (2 * size w c < t) × (Body w p b × (c < rowCount w))
+      item t q = let x = closed-rest body (a .closed) l .order in let y = a .low in (omega arith, (body, row))
+
+      apart : anyLeaves w p b c e label implicit ≡ (anyLeaves w p b c (end w c) label implicit || anyLeaves w p b (end w c) e label implicit)
+      apart =
+          let m = closed-item body c row in
+          any-apart w p b c (end w c) e label implicit (m .order) (closed-rest body (a .closed) l .order) (m .ends)
+
+      found : {t : Bool} → t ≡ anyLeaves w p b c (end w c) label implicit → t ≡ true → true ≡ anyLeaves w p b from e label implicit
+      found q y = rw (← q, y) at (sym (sym (a .same) ∙ apart))
+
+      next : {t : Bool} → t ≡ anyLeaves w p b c (end w c) label implicit → t ≡ false → {n : ℕ} → n ≡ size w c → Walk w p b e label implicit from (c + n)
+      next q y z =
+          let x = closed-rest body (a .closed) l in
+          let low = a .low in
+          record { closed = rw z x; low = omega arith; same = rw z (sym (rw (← q, y) at apart) ∙ a .same) }
+
+abbrev μ-has-break : Measures 3 has-break-kinds.ps ℕ
+μ-has-break κs a = 2 * size (a .0 .now) (a .1 .1 .1 .0 .0)
+
+abbrev μ-has-break-list : Measures 3 has-break-list-kinds.ps ℕ
+μ-has-break-list κs a = 2 * (a .1 .1 .1 .1 .0 - a .1 .1 .1 .0 .0) + 1
+
+abbrev has-break-at : ℕ → In 3 has-break-kinds.ps
+has-break-at t = and 3 has-break-kinds.ps (is 3 has-break-kinds.ps μ-has-break t) has-break.Pre
+
+abbrev has-break-below : ℕ → In 3 has-break-kinds.ps
+has-break-below t =
+    and 3 has-break-kinds.ps (falls 3 has-break-kinds.ps _<_ μ-has-break t) has-break.Pre
+
+abbrev has-break-list-at : ℕ → In 3 has-break-list-kinds.ps
+has-break-list-at t =
+    and
+    3
+    has-break-list-kinds.ps
+    (is 3 has-break-list-kinds.ps μ-has-break-list t)
+    has-break-list.Pre
+
+abbrev has-break-list-below : ℕ → In 3 has-break-list-kinds.ps
+has-break-list-below t =
+    and
+    3
+    has-break-list-kinds.ps
+    (falls 3 has-break-list-kinds.ps _<_ μ-has-break-list t)
+    has-break-list.Pre
+
+abbrev has-break-calls : ℕ → has-break-lts.Claims
+has-break-calls t = (kind-reads.Asked, kind-reads.Learnt, is-break-reads.Asked, is-break-reads.Learnt, size-reads.Asked, size-reads.Learnt, is-breakable-reads.Asked, is-breakable-reads.Learnt, has-break-list-below t, has-break-list.Post)
+
+abbrev has-break-list-calls : ℕ → has-break-list-lts.Claims
+has-break-list-calls t = (has-break-below t, has-break.Post, size-reads.Asked, size-reads.Learnt)
+
+has-break-kind-requires : (t : ℕ) → has-break-lts.Need-kind-requires (has-break-calls t) (has-break-at t) has-break.Post
+has-break-kind-requires t c κs = search needs
+
+has-break-is-break-requires : (t : ℕ) → has-break-lts.Need-is-break-requires (has-break-calls t) (has-break-at t) has-break.Post
+has-break-is-break-requires t c κs =
+    let s = c .before .before .before .before .before in
+    (s .pre .1 .0, s .pre .1 .1, sym (c .before .kind .ensures) ∙ c .if1 .taken)
+
+has-break-returns : (t : ℕ) → has-break-lts.Need-returns (has-break-calls t) (has-break-at t) has-break.Post
+has-break-returns t c =
+    let s = c .before .before .before .before .before .before in
+    c .is-break .ensures ∙ own (s .pre .1 .0) _ (s .pre .1 .1) (sym (c .before .before .kind .ensures) ∙ c .before .if1 .taken) _ _
+
+has-break-add-end : (t : ℕ) → has-break-lts.Need-add-end (has-break-calls t) (has-break-at t) has-break.Post
+has-break-add-end t c =
+    let s = c .before .before .before .before .before .before in
+    omega (arith, s .pre .1 .0 .most-rows, s .pre .1 .1)
+
+has-break-size-requires : (t : ℕ) → has-break-lts.Need-size-requires (has-break-calls t) (has-break-at t) has-break.Post
+has-break-size-requires t c κs = search needs
+
+has-break-add-end-2 : (t : ℕ) → has-break-lts.Need-add-end-2 (has-break-calls t) (has-break-at t) has-break.Post
+has-break-add-end-2 t c =
+    let s = c .before .before .before .before .before .before .before .before in
+    omega (arith, s .pre .1 .0 .most-rows, s .pre .1 .0 .sized .within (s .args .row .0) (s .pre .1 .1), c .before .size .ensures)
+
+has-break-is-breakable-requires : (t : ℕ) → has-break-lts.Need-is-breakable-requires (has-break-calls t) (has-break-at t) has-break.Post
+has-break-is-breakable-requires t c κs = search needs
+
+has-break-returns-2 : (t : ℕ) → has-break-lts.Need-returns-2 (has-break-calls t) (has-break-at t) has-break.Post
+has-break-returns-2 t c =
+    let s = c .before .before .before .before .before .before .before .before .before .before .before .before in
+    let p = c .before .before in
+    unnamed (s .pre .1 .0) _ (s .pre .1 .1) (breakable (s .pre .1 .0) _ (s .pre .1 .1) (c .before .before .before .before .before .before .before .before .kind .ensures) (p .before .is-breakable .ensures) (p .if2 .taken)) _ _ (c .if3 .taken)
+
+has-break-has-break-list-requires : (t : ℕ) → has-break-lts.Need-has-break-list-requires (has-break-calls t) (has-break-at t) has-break.Post
+has-break-has-break-list-requires t c κs =
+    let s = c .before .before .before .before .before .before .before .before .before .before .before .before in
+    below (s .pre .1 .0) _ (s .pre .1 .1) (c .before .before .before .before .before .size .ensures) (s .pre .0)
+
+has-break-returns-3 : (t : ℕ) → has-break-lts.Need-returns-3 (has-break-calls t) (has-break-at t) has-break.Post
+has-break-returns-3 t c =
+    let s = c .before .before .before .before .before .before .before .before .before .before .before .before .before in
+    let p = c .before .before .before in
+    held (s .pre .1 .0) _ (s .pre .1 .1) (c .before .before .before .before .before .before .size .ensures) _ _
+    (breakable (s .pre .1 .0) _ (s .pre .1 .1) (c .before .before .before .before .before .before .before .before .before .kind .ensures) (p .before .is-breakable .ensures) (p .if2 .taken)) (c .has-break-list .ensures)
+
+has-break-has-break-list-requires-2 : (t : ℕ) → has-break-lts.Need-has-break-list-requires-2 (has-break-calls t) (has-break-at t) has-break.Post
+has-break-has-break-list-requires-2 t c κs =
+    let s = c .before .before .before .before .before .before .before .before .before .before in
+    below (s .pre .1 .0) _ (s .pre .1 .1) (c .before .before .before .size .ensures) (s .pre .0)
+
+has-break-returns-4 : (t : ℕ) → has-break-lts.Need-returns-4 (has-break-calls t) (has-break-at t) has-break.Post
+has-break-returns-4 t c =
+    let s = c .before .before .before .before .before .before .before .before .before .before .before in
+    let p = c .before in
+    let k = c .before .before .before .before .before .before in
+    through (s .pre .1 .0) _ (s .pre .1 .1) (c .before .before .before .before .size .ensures) _ _
+    (breakable (s .pre .1 .0) _ (s .pre .1 .1) (k .before .kind .ensures) (p .before .is-breakable .ensures) (p .if2 .left))
+    (λ z. k .if1 .left (k .before .kind .ensures ∙ z)) (c .has-break-list2 .ensures)
+
+abbrev has-break-list-Inv-loop : has-break-list-lts.InvT-loop
+has-break-list-Inv-loop rows pairs bytes end label implicit c₀ c = Walk rows pairs bytes end (label .0) implicit c₀ c
+
+abbrev has-break-list-μ-loop : has-break-list-lts.MeasureT-loop
+has-break-list-μ-loop rows pairs bytes end label implicit c₀ c = end - c
+
+has-break-list-loop-holds : (t : ℕ) → has-break-list-lts.Need-loop-holds (has-break-list-calls t) (has-break-list-at t) has-break-list.Post has-break-list-Inv-loop has-break-list-μ-loop
+has-break-list-loop-holds t c = let s = c .before .before .before in begin (s .pre .1 .0) (s .pre .1 .1)
+
+has-break-list-has-break-requires : (t : ℕ) → has-break-list-lts.Need-has-break-requires (has-break-list-calls t) (has-break-list-at t) has-break-list.Post has-break-list-Inv-loop has-break-list-μ-loop
+has-break-list-has-break-requires t c κs =
+    let s = c .before .before .before .before .before in
+    item (s .pre .1 .0) (c .before .loop .inv) (c .loop-test .taken) _ (s .pre .0)
+
+has-break-list-returns : (t : ℕ) → has-break-list-lts.Need-returns (has-break-list-calls t) (has-break-list-at t) has-break-list.Post has-break-list-Inv-loop has-break-list-μ-loop
+has-break-list-returns t c =
+    let s = c .before .before .before .before .before .before .before in
+    let p = c .before .before in
+    found (s .pre .1 .0) (p .before .loop .inv) (p .loop-test .taken) (c .before .has-break .ensures) (c .if1 .taken)
+
+has-break-list-size-requires : (t : ℕ) → has-break-list-lts.Need-size-requires (has-break-list-calls t) (has-break-list-at t) has-break-list.Post has-break-list-Inv-loop has-break-list-μ-loop
+has-break-list-size-requires t c κs = search needs
+
+has-break-list-add-c : (t : ℕ) → has-break-list-lts.Need-add-c (has-break-list-calls t) (has-break-list-at t) has-break-list.Post has-break-list-Inv-loop has-break-list-μ-loop
+has-break-list-add-c t c =
+    let s = c .before .before .before .before .before .before .before .before in
+    let p = c .before .before .before in
+    let x = s .pre .1 .0 .sized .within (p .before .loop .c) (row (s .pre .1 .0) (p .before .loop .inv) (p .loop-test .taken)) in
+    omega (arith, x, s .pre .1 .0 .most-rows, c .size .ensures)
+
+has-break-list-loop-less : (t : ℕ) → has-break-list-lts.Need-loop-less (has-break-list-calls t) (has-break-list-at t) has-break-list.Post has-break-list-Inv-loop has-break-list-μ-loop
+has-break-list-loop-less t c =
+    let s = c .before .before .before .before .before .before .before .before in
+    let p = c .before .before .before in
+    let x = s .pre .1 .0 .sized .some-rows (p .before .loop .c) (row (s .pre .1 .0) (p .before .loop .inv) (p .loop-test .taken)) in
+    omega (arith, x, c .size .ensures, p .loop-test .taken)
+
+has-break-list-loop-again : (t : ℕ) → has-break-list-lts.Need-loop-again (has-break-list-calls t) (has-break-list-at t) has-break-list.Post has-break-list-Inv-loop has-break-list-μ-loop
+has-break-list-loop-again t c =
+    let s = c .before .before .before .before .before .before .before .before in
+    let p = c .before .before .before in
+    next (s .pre .1 .0) (p .before .loop .inv) (p .loop-test .taken) (c .before .before .has-break .ensures) (c .before .if1 .left) (c .size .ensures)
+
+has-break-list-returns-2 : (t : ℕ) → has-break-list-lts.Need-returns-2 (has-break-list-calls t) (has-break-list-at t) has-break-list.Post has-break-list-Inv-loop has-break-list-μ-loop
+has-break-list-returns-2 t c =
+    let s = c .before .before .before .before .before in
+    ended (s .pre .1 .0) (c .before .loop .inv) (c .loop-test .left)
+
+pub +has-break+has-break-list-spec : {M : Type 1} → statement M
++has-break+has-break-list-spec = close μ-has-break μ-has-break-list (λ t. has-break-lts.spec (has-break-calls t)
+    (has-break-at t)
+    has-break.Post
+    (has-break-kind-requires t)
+    (has-break-is-break-requires t)
+    (has-break-returns t)
+    (has-break-add-end t)
+    (has-break-size-requires t)
+    (has-break-add-end-2 t)
+    (has-break-is-breakable-requires t)
+    (has-break-returns-2 t)
+    (has-break-has-break-list-requires t)
+    (has-break-returns-3 t)
+    (has-break-has-break-list-requires-2 t)
+    (has-break-returns-4 t))
+    λ t. has-break-list-lts.spec (has-break-list-calls t)
+    (has-break-list-at t)
+    has-break-list.Post
+    has-break-list-Inv-loop
+    has-break-list-μ-loop
+    (has-break-list-loop-holds t)
+    (has-break-list-has-break-requires t)
+    (has-break-list-returns t)
+    (has-break-list-size-requires t)
+    (has-break-list-add-c t)
+    (has-break-list-loop-less t)
+    (has-break-list-loop-again t)
+    (has-break-list-returns-2 t)

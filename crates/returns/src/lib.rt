@@ -1,0 +1,229 @@
+// Port of goscript's returns.rs: whether a body is terminating. The statement rule and the list rule
+// call each other, downward, and so do the two searches for a break.
+use body::Checked;
+use body::Refusal;
+use names::Found;
+use names::NameNumber;
+use rows::RowNumber;
+ghost use mathlib.Core.Path.{_≡_};
+ghost use mathlib.Core.Bool.{true, _||_};
+ghost use Prim.Native.Nat.{_<_};
+ghost use Rattle.rules.specs.Rows.{rowCount, kind, end};
+ghost use Rattle.rules.specs.Class.{select, isSwitch, isStatement, class};
+ghost use Rattle.rules.specs.Labels.{isClass};
+ghost use Rattle.rules.specs.Body.{Sized, Detailed, Body};
+ghost use Rattle.rules.specs.Calls.{verdictCall};
+ghost use Rattle.returns.specs.Given.{given};
+ghost use Rattle.returns.specs.Search.{labelNumber, Closed, Statements, OneRowEmpties, Lasts, isTerminating, isTerminatingList, leaves, anyLeaves};
+
+pub enum Verdict {
+    Refused(Refusal),
+    Yes,
+    No,
+}
+
+// Whether the statement is terminating. If it is labelled, `label` is the name of the label directly
+// on it.
+pub fn is_terminating(
+    rows: &[u32],
+    pairs: &[u32],
+    bytes: &[u8],
+    row: RowNumber,
+    label: NameNumber,
+) -> bool
+    requires { ⌜ Body (now rows) (now pairs) (now bytes) × (row .0 < rowCount (now rows)) × (isStatement (class (now rows) (row .0)) ≡ true) × (label .0 ≡ labelNumber (now rows) (row .0)) ⌝ }
+    ensures { λ r. ⌜ r ≡ isTerminating (now (rows .entry)) (now (pairs .entry)) (now (bytes .entry)) (row .0) ⌝ }
+{
+    let kind = rows::kind(rows, row);
+    let first = RowNumber(row.0 + 1);
+    let end = row.0 + rows::size(rows, row);
+    match kind {
+        3 => is_terminating(rows, pairs, bytes, first, rows::name(rows, row)),
+        4 => rows::detail(rows, row) == 1,
+        10 => true,
+        11 => 2 <= rows::detail(rows, row),
+        12 => is_terminating_list(rows, pairs, bytes, first, end),
+        13 => {
+            if rows::detail(rows, row) == 0 {
+                return false;
+            }
+            if !is_terminating(rows, pairs, bytes, first, NameNumber(0)) {
+                return false;
+            }
+            let els = RowNumber(first.0 + rows::size(rows, first));
+            is_terminating(rows, pairs, bytes, els, NameNumber(0))
+        }
+        15 => is_terminating_switch(rows, pairs, bytes, row, label, false),
+        16 => is_terminating_switch(rows, pairs, bytes, row, label, false),
+        18 => is_terminating_switch(rows, pairs, bytes, row, label, true),
+        19 => {
+            if rows::detail(rows, row) == 1 {
+                return false;
+            }
+            !has_break_list(rows, pairs, bytes, first, end, label, true)
+        }
+        _ => false,
+    }
+}
+
+// Whether the items from `from` on, before `end`, are terminating: the last that is no Empty is.
+// Trailing empty statements are permitted.
+fn is_terminating_list(
+    rows: &[u32],
+    pairs: &[u32],
+    bytes: &[u8],
+    from: RowNumber,
+    end: usize,
+) -> bool
+    requires { ⌜ Body (now rows) (now pairs) (now bytes) × Closed (now rows) (from .0) end × Statements (now rows) (from .0) end × (labelNumber (now rows) (from .0) ≡ 0) ⌝ }
+    ensures { λ r. ⌜ r ≡ isTerminatingList (now (rows .entry)) (now (pairs .entry)) (now (bytes .entry)) end (from .0) ⌝ }
+{
+    match last_item(rows, from, end) {
+        Found::At(last) => is_terminating(rows, pairs, bytes, RowNumber(last), NameNumber(0)),
+        Found::Nowhere => false,
+    }
+}
+
+// The last item from `from` on, before `end`, that is no Empty.
+fn last_item(rows: &[u32], from: RowNumber, end: usize) -> Found
+    requires { ⌜ Sized (now rows) × Detailed (now rows) × OneRowEmpties (now rows) × Closed (now rows) (from .0) end ⌝ }
+    ensures { λ r. ⌜ Lasts (now (rows .entry)) (from .0) end r ⌝ }
+{
+    let mut last = Found::Nowhere;
+    let mut c = from.0;
+    while c < end {
+        let item = RowNumber(c);
+        if rows::kind(rows, item) != 2 {
+            last = Found::At(c);
+        }
+        c = c + rows::size(rows, item);
+    }
+    last
+}
+
+// Whether every clause of the switch or Select is terminating and no break refers to it. A switch
+// needs a default, so it begins with none found; a Select needs none, so it begins with one.
+fn is_terminating_switch(
+    rows: &[u32],
+    pairs: &[u32],
+    bytes: &[u8],
+    row: RowNumber,
+    label: NameNumber,
+    found: bool,
+) -> bool
+    requires { ⌜ Body (now rows) (now pairs) (now bytes) × (row .0 < rowCount (now rows)) × ((isSwitch (class (now rows) (row .0)) || isClass (now rows) select (row .0)) ≡ true) × (found ≡ isClass (now rows) select (row .0)) × (label .0 ≡ labelNumber (now rows) (row .0)) ⌝ }
+    ensures { λ r. ⌜ r ≡ isTerminating (now (rows .entry)) (now (pairs .entry)) (now (bytes .entry)) (row .0) ⌝ }
+{
+    let mut has_default = found;
+    let end = row.0 + rows::size(rows, row);
+    let mut c = row.0 + 2;
+    while c < end {
+        let clause = RowNumber(c);
+        let first = RowNumber(c + 1);
+        let next = c + rows::size(rows, clause);
+        if rows::detail(rows, clause) == 1 {
+            has_default = true;
+        }
+        if !is_terminating_list(rows, pairs, bytes, first, next) {
+            return false;
+        }
+        if has_break_list(rows, pairs, bytes, first, next, label, true) {
+            return false;
+        }
+        c = next;
+    }
+    has_default
+}
+
+// Whether the Branch row is a break that goes to the labelled statement or, where `implicit`, to the
+// closest outer one.
+fn is_break(
+    rows: &[u32],
+    pairs: &[u32],
+    bytes: &[u8],
+    row: RowNumber,
+    label: NameNumber,
+    implicit: bool,
+) -> bool
+    requires { ⌜ Body (now rows) (now pairs) (now bytes) × (row .0 < rowCount (now rows)) × (kind (now rows) (row .0) ≡ 11) ⌝ }
+    ensures { λ r. ⌜ r ≡ leaves (now (rows .entry)) (now (pairs .entry)) (now (bytes .entry)) (row .0) (label .0) implicit (row .0) ⌝ }
+{
+    if rows::detail(rows, row) != 0 {
+        return false;
+    }
+    let name = rows::name(rows, row);
+    if name.0 == 0 {
+        return implicit;
+    }
+    if label.0 == 0 {
+        return false;
+    }
+    names::same_name(pairs, bytes, name, label)
+}
+
+// Whether the statement is or contains a break that refers to the labelled statement around it or,
+// where `implicit`, to the closest outer one that a break can leave.
+fn has_break(
+    rows: &[u32],
+    pairs: &[u32],
+    bytes: &[u8],
+    row: RowNumber,
+    label: NameNumber,
+    implicit: bool,
+) -> bool
+    requires { ⌜ Body (now rows) (now pairs) (now bytes) × (row .0 < rowCount (now rows)) ⌝ }
+    ensures { λ r. ⌜ r ≡ anyLeaves (now (rows .entry)) (now (pairs .entry)) (now (bytes .entry)) (row .0) (end (now (rows .entry)) (row .0)) (label .0) implicit ⌝ }
+{
+    let kind = rows::kind(rows, row);
+    if kind == 11 {
+        return is_break(rows, pairs, bytes, row, label, implicit);
+    }
+    let first = RowNumber(row.0 + 1);
+    let end = row.0 + rows::size(rows, row);
+    if rows::kinds::is_breakable(kind) {
+        if label.0 == 0 {
+            return false;
+        }
+        return has_break_list(rows, pairs, bytes, first, end, label, false);
+    }
+    has_break_list(rows, pairs, bytes, first, end, label, implicit)
+}
+
+fn has_break_list(
+    rows: &[u32],
+    pairs: &[u32],
+    bytes: &[u8],
+    from: RowNumber,
+    end: usize,
+    label: NameNumber,
+    implicit: bool,
+) -> bool
+    requires { ⌜ Body (now rows) (now pairs) (now bytes) × Closed (now rows) (from .0) end ⌝ }
+    ensures { λ r. ⌜ r ≡ anyLeaves (now (rows .entry)) (now (pairs .entry)) (now (bytes .entry)) (from .0) end (label .0) implicit ⌝ }
+{
+    let mut c = from.0;
+    while c < end {
+        let item = RowNumber(c);
+        if has_break(rows, pairs, bytes, item, label, implicit) {
+            return true;
+        }
+        c = c + rows::size(rows, item);
+    }
+    false
+}
+
+// The verdict on a well-formed body; else the refusal.
+pub fn verdict_of(rows: &[u32], pairs: &[u32], bytes: &[u8]) -> Verdict
+    ensures { λ r. ⌜ given r ≡ verdictCall (now (rows .entry)) (now (pairs .entry)) (now (bytes .entry)) ⌝ }
+{
+    match body::refusal_of(rows, pairs, bytes) {
+        Checked::Refused(r) => Verdict::Refused(r),
+        Checked::WellFormed => {
+            if is_terminating(rows, pairs, bytes, RowNumber(0), NameNumber(0)) {
+                Verdict::Yes
+            } else {
+                Verdict::No
+            }
+        }
+    }
+}

@@ -1,0 +1,3 @@
+pub mod Canons
+pub mod Filling
+pub mod Declaring
