@@ -12,7 +12,7 @@ pub fn words() {
 
 // Kind 21; kind 4,294,967,295; details 1 of Block, 4 of Branch, 2 of For, 4,294,967,295 of Decl;
 // position 0, and the largest.
-pub fn fields() {
+pub fn each() {
     show::title(b"kinds, details, positions");
     show::named(&[12u32, 0, 1, 0, 2, 21, 0, 1, 0, 1]);
     show::named(&[12u32, 0, 1, 0, 2, 4294967295, 0, 1, 0, 1]);

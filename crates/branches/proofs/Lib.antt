@@ -1,0 +1,15 @@
+pub mod WalkFaults
+pub mod WalkBindings
+pub mod WalkPending
+pub mod CanonRows
+pub mod WalkRoom
+pub mod WalkRows
+pub mod TableRows
+pub mod BlockLabels
+pub mod ListClimb
+pub mod BranchRows
+pub mod BranchSteps
+pub mod Chained
+pub mod Downward
+pub mod LabelRow
+pub mod LabelStep

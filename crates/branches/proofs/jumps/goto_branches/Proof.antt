@@ -1,0 +1,89 @@
+-- A goto with an earlier label is bound to it; else it is pending, on top of those of its name, or, named `_`, of none.
+-- Assumes nothing.
+use native.Mathlib.Omega.{arith}
+use borrow.Author.Needs.{needs}
+use Rattle.branches.proofs.TableRows.{canon-place}
+use Rattle.branches.proofs.BranchSteps.{label-small, goto-bound, goto-blank, goto-place, goto-pending}
+use Rattle.branches.proofs.jumps.goto_branches.Statement.{statement}
+use Rattle.branches.proofs.jumps.goto_branches.Tie as tie
+
+goto-target-requires : tie.Need-goto-target-requires
+goto-target-requires c κs = search needs
+
+cast-bindings : tie.Need-cast-bindings
+cast-bindings c = omega (arith, label-small (c .before .before .before .before .before .before .before .before .before .before .before .before .pre .0) _ _ _ _ _ _ (c .before .before .before .before .before .before .before .before .before .before .before .before .pre .1 .1 .0) (c .before .before .before .before .before .before .before .before .before .before .before .before .pre .1 .0) (c .before .before .before .before .before .before .before .before .before .before .before .before .pre .1 .1 .1) _ (c .before .goto-target .ensures))
+
+mul-bindings : tie.Need-mul-bindings
+mul-bindings c = search needs
+
+slice-write-bindings : tie.Need-slice-write-bindings
+slice-write-bindings c = search needs
+
+same-length : tie.Need-same-length
+same-length c = search needs
+
+returns : tie.Need-returns
+returns c = goto-bound (c .before .before .before .before .before .before .before .before .before .before .before .before .pre .0) _ _ _ _ _ _ (c .before .before .before .before .before .before .before .before .before .before .before .before .pre .1 .1 .0) (c .before .before .before .before .before .before .before .before .before .before .before .before .pre .1 .0) (c .before .before .before .before .before .before .before .before .before .before .before .before .pre .1 .1 .1) _ (c .before .goto-target .ensures) (c .if1 .taken)
+
+canon-of-requires : tie.Need-canon-of-requires
+canon-of-requires c κs = (c .before .before .before .before .before .before .before .before .before .before .before .before .pre .1 .1 .0, canon-place (c .before .before .before .before .before .before .before .before .before .before .before .before .pre .0) _ (c .before .before .before .before .before .before .before .before .before .before .before .before .pre .1 .1 .0))
+
+mul-links : tie.Need-mul-links
+mul-links c = omega (arith, goto-place (c .before .before .before .before .before .before .before .before .before .before .before .before .before .before .pre .0) _ _ _ _ _ _ (c .before .before .before .before .before .before .before .before .before .before .before .before .before .before .pre .1 .1 .0) (c .before .before .before .before .before .before .before .before .before .before .before .before .before .before .pre .1 .0) (c .before .before .before .before .before .before .before .before .before .before .before .before .before .before .pre .1 .1 .1) _ (c .before .before .before .goto-target .ensures) (c .before .before .if1 .left) _ (c .before .canon-of .ensures))
+
+slice-read-links : tie.Need-slice-read-links
+slice-read-links c = goto-place (c .before .before .before .before .before .before .before .before .before .before .before .before .before .before .before .pre .0) _ _ _ _ _ _ (c .before .before .before .before .before .before .before .before .before .before .before .before .before .before .before .pre .1 .1 .0) (c .before .before .before .before .before .before .before .before .before .before .before .before .before .before .before .pre .1 .0) (c .before .before .before .before .before .before .before .before .before .before .before .before .before .before .before .pre .1 .1 .1) _ (c .before .before .before .before .goto-target .ensures) (c .before .before .before .if1 .left) _ (c .before .before .canon-of .ensures)
+
+mul-links-2 : tie.Need-mul-links-2
+mul-links-2 c = search needs
+
+slice-write-links : tie.Need-slice-write-links
+slice-write-links c = search needs
+
+add-heads : tie.Need-add-heads
+add-heads c = search needs
+
+cast-heads : tie.Need-cast-heads
+cast-heads c = search needs
+
+mul-heads : tie.Need-mul-heads
+mul-heads c = omega (arith, goto-place (c .before .before .before .before .before .before .before .before .before .before .before .before .before .before .before .pre .0) _ _ _ _ _ _ (c .before .before .before .before .before .before .before .before .before .before .before .before .before .before .before .pre .1 .1 .0) (c .before .before .before .before .before .before .before .before .before .before .before .before .before .before .before .pre .1 .0) (c .before .before .before .before .before .before .before .before .before .before .before .before .before .before .before .pre .1 .1 .1) _ (c .before .before .before .before .goto-target .ensures) (c .before .before .before .if1 .left) _ (c .before .before .canon-of .ensures))
+
+slice-write-heads : tie.Need-slice-write-heads
+slice-write-heads c = goto-place (c .before .before .before .before .before .before .before .before .before .before .before .before .before .before .before .pre .0) _ _ _ _ _ _ (c .before .before .before .before .before .before .before .before .before .before .before .before .before .before .before .pre .1 .1 .0) (c .before .before .before .before .before .before .before .before .before .before .before .before .before .before .before .pre .1 .0) (c .before .before .before .before .before .before .before .before .before .before .before .before .before .before .before .pre .1 .1 .1) _ (c .before .before .before .before .goto-target .ensures) (c .before .before .before .if1 .left) _ (c .before .before .canon-of .ensures)
+
+same-length-2 : tie.Need-same-length-2
+same-length-2 c = search needs
+
+same-length-3 : tie.Need-same-length-3
+same-length-3 c = search needs
+
+returns-2 : tie.Need-returns-2
+returns-2 c = goto-pending (c .before .before .before .before .before .before .before .before .before .before .before .before .before .before .before .pre .0) _ _ _ _ _ _ (c .before .before .before .before .before .before .before .before .before .before .before .before .before .before .before .pre .1 .1 .0) (c .before .before .before .before .before .before .before .before .before .before .before .before .before .before .before .pre .1 .0) (c .before .before .before .before .before .before .before .before .before .before .before .before .before .before .before .pre .1 .1 .1) _ (c .before .before .before .before .goto-target .ensures) (c .before .before .before .if1 .left) _ (c .before .before .canon-of .ensures) (c .before .if2 .taken)
+
+returns-3 : tie.Need-returns-3
+returns-3 c = goto-blank (c .before .before .before .before .before .before .before .before .before .before .before .before .before .before .pre .0) _ _ _ _ _ _ (c .before .before .before .before .before .before .before .before .before .before .before .before .before .before .pre .1 .1 .0) (c .before .before .before .before .before .before .before .before .before .before .before .before .before .before .pre .1 .0) (c .before .before .before .before .before .before .before .before .before .before .before .before .before .before .pre .1 .1 .1) _ (c .before .before .before .goto-target .ensures) (c .before .before .if1 .left) _ (c .before .canon-of .ensures) (c .if2 .left)
+
+pub goto-branches-spec : {M : Type 1} → statement M
+goto-branches-spec =
+    tie.close
+    (tie.spec
+    goto-target-requires
+    cast-bindings
+    mul-bindings
+    slice-write-bindings
+    same-length
+    returns
+    canon-of-requires
+    mul-links
+    slice-read-links
+    mul-links-2
+    slice-write-links
+    add-heads
+    cast-heads
+    mul-heads
+    slice-write-heads
+    same-length-2
+    same-length-3
+    returns-2
+    returns-3)

@@ -1,0 +1,50 @@
+-- A break needs the row below its target's label to be breakable, a continue a loop; the detail says which of the two the row is.
+-- Assumes nothing.
+use mathlib.Core.Path.{sym, _∙_}
+use borrow.Author.Needs.{needs}
+use Rattle.rules.specs.Class.{class}
+use Rattle.rules.proofs.ClassTests.{break-branch}
+use Rattle.branches.proofs.BranchRows.{zero-break, not-zero-continue, no-target, target-row, valid-break, valid-continue}
+use Rattle.branches.proofs.jumps.valid_target.Statement.{statement}
+use Rattle.branches.proofs.jumps.valid_target.Tie as tie
+
+enclosing-target-requires : tie.Need-enclosing-target-requires
+enclosing-target-requires c κs = (c .before .before .before .before .before .before .before .pre .0, (c .before .before .before .before .before .before .before .pre .1 .0, (c .before .before .before .before .before .before .before .pre .1 .1 .0, break-branch (class (c .before .before .before .before .before .before .before .args .rows .now) (c .before .before .before .before .before .before .before .args .row .0)) (c .before .before .before .before .before .before .before .pre .1 .1 .1))))
+
+returns : tie.Need-returns
+returns c = no-target (c .before .before .before .before .before .before .before .before .before .pre .0 .body) _ (c .before .before .before .before .before .before .before .before .before .pre .1 .1 .0) _ (c .before .enclosing-target .ensures) (c .if1 .taken)
+
+kind-requires : tie.Need-kind-requires
+kind-requires c κs = target-row (c .before .before .before .before .before .before .before .before .before .pre .0 .body) _ (c .before .before .before .before .before .before .before .before .before .pre .1 .1 .0) _ (c .before .enclosing-target .ensures) (c .if1 .left)
+
+detail-requires : tie.Need-detail-requires
+detail-requires c κs = search needs
+
+is-breakable-requires : tie.Need-is-breakable-requires
+is-breakable-requires c κs = search needs
+
+is-loop-requires : tie.Need-is-loop-requires
+is-loop-requires c κs = search needs
+
+returns-2 : tie.Need-returns-2
+returns-2 c =
+    valid-break (c .before .before .before .before .before .before .before .before .before .before .before .before .before .pre .0 .body) _ (c .before .before .before .before .before .before .before .before .before .before .before .before .before .pre .1 .1 .0) _ (c .before .before .before .before .before .enclosing-target .ensures) (c .before .before .before .before .if1 .left) _ (c .before .before .before .kind .ensures) _
+    (zero-break (c .before .before .before .before .before .before .before .before .before .before .before .before .before .args .rows .now) _ (c .before .before .before .before .before .before .before .before .before .before .before .before .before .pre .0 .body .details _ (c .before .before .before .before .before .before .before .before .before .before .before .before .before .pre .1 .1 .0)) (c .before .before .before .before .before .before .before .before .before .before .before .before .before .pre .1 .1 .1) (sym (c .before .before .detail .ensures) ∙ c .before .if2 .taken)) (c .is-breakable .ensures)
+
+returns-3 : tie.Need-returns-3
+returns-3 c =
+    valid-continue (c .before .before .before .before .before .before .before .before .before .before .before .before .before .pre .0 .body) _ (c .before .before .before .before .before .before .before .before .before .before .before .before .before .pre .1 .1 .0) _ (c .before .before .before .before .before .enclosing-target .ensures) (c .before .before .before .before .if1 .left) _ (c .before .before .before .kind .ensures) _
+    (not-zero-continue (c .before .before .before .before .before .before .before .before .before .before .before .before .before .args .rows .now) _ (c .before .before .before .before .before .before .before .before .before .before .before .before .before .pre .0 .body .details _ (c .before .before .before .before .before .before .before .before .before .before .before .before .before .pre .1 .1 .0)) (c .before .before .before .before .before .before .before .before .before .before .before .before .before .pre .1 .1 .1) (λ e. c .before .if2 .left (c .before .before .detail .ensures ∙ e))) (c .is-loop .ensures)
+
+pub valid-target-spec : {M : Type 1} → statement M
+valid-target-spec =
+    tie.close
+    (tie.spec
+    enclosing-target-requires
+    returns
+    kind-requires
+    detail-requires
+    is-breakable-requires
+    is-loop-requires
+    returns-2
+    returns-3)
