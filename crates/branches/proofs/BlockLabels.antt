@@ -1,5 +1,7 @@
--- The target of a labelled branch, by the Blocks around it: a label is last in its run and has the branch inside a Block of its statement exactly when it is the current label
--- of a Block around the branch. Such a Block is the first inside the label's statement: no list stands between, since a Block further in stands in a list of the first;
+-- The target of a labelled branch, by the Blocks around it: a label is last in its run and has the branch inside a Block of its statement exactly when
+-- it is the current label
+-- of a Block around the branch. Such a Block is the first inside the label's statement: no list stands between, since a Block further in stands in a
+-- list of the first;
 -- and a label between would stand in a list that the statement holds. Blocks further out have labels further out.
 -- Assumes nothing.
 use mathlib.Core.Path.{_≡_, refl, sym, _∙_, ap}
@@ -365,7 +367,8 @@ module _ {w p b : List ℕ} (body : Body w p b) where
       }
 
   -- a Block further out, inside the label's statement, would hold a list between
-  outer-block : (k j t : ℕ) → k < rowCount w → isBlock (class w k) ≡ true → currentLabel w p b k ≡ some t → isBlock (class w j) ≡ true → t < j → j < k → k < end w j → ⊥
+  outer-block : (k j t : ℕ) → k < rowCount w → isBlock (class w k) ≡ true → currentLabel w p b k ≡ some t → isBlock (class w j) ≡ true → t < j
+      → j < k → k < end w j → ⊥
   unfolding listOf
   outer-block k j t row block e u l m reach =
       let (q, x) = is-current w p b k t e in

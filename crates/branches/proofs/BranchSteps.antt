@@ -118,7 +118,8 @@ module _ {w p b cs ds ls : List ℕ} (t : Tables w p b cs ds ls) (x faults : ℕ
         let m = target-named (t .body) x row g f in
         omega (arith, m, canon-read t x c row e)
 
-    pub break-bound : (c v : ℕ) → c ≡ getD cs (name w x) 0 → v ≡ getD ds c 0 → true ≡ validTarget w p b 0 x → Walked w p b (suc x) faults s bs s (set bs x v) h l
+    pub break-bound : (c v : ℕ) → c ≡ getD cs (name w x) 0 → v ≡ getD ds c 0 → true ≡ validTarget w p b 0 x
+        → Walked w p b (suc x) faults s bs s (set bs x v) h l
     break-bound c v e f u =
         let n = branch-label w p b 0 x branch in
         bound branch no-goto v (report-valid w p b 0 x n labelled (sym u))

@@ -1,4 +1,5 @@
--- The climb from a branch over the rows around it that hold items, innermost first: of the Blocks that it has passed none has a current label with the branch's canonical number,
+-- The climb from a branch over the rows around it that hold items, innermost first: of the Blocks that it has passed none has a current label with the
+-- branch's canonical number,
 -- so the first that has one gives the target.
 -- Assumes nothing.
 use mathlib.Core.Path.{_≡_, refl, sym, _∙_, ap}
@@ -150,7 +151,8 @@ module _ {w p b cs ds ls : List ℕ} (t : Tables w p b cs ds ls) (g c : ℕ) (ro
     climb-less next e = omega (arith, list-before t (list - 1) climb-in)
 
     -- a Block: label is its word in the links
-    module _ (k : ℕ) (ek : k ≡ kind w (list - 1)) (i : k ≡ 12) (links : List ℕ) (linked : BlockLinks w p b g links) (label : ℕ) (el : label ≡ getD links (list - 1) 0) where
+    module _ (k : ℕ) (ek : k ≡ kind w (list - 1)) (i : k ≡ 12) (links : List ℕ) (linked : BlockLinks w p b g links) (label : ℕ)
+        (el : label ≡ getD links (list - 1) 0) where
       label-is : label ≡ word (currentLabel w p b (list - 1))
       label-is = el ∙ linked .1 (list - 1) climb-row (is-block k ek i)
 

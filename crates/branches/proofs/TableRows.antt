@@ -1,4 +1,5 @@
--- What the tables of the walk hold at a row: its canonical number, its declared label, its list. A Labeled row and a goto are statements, so that their word is their list.
+-- What the tables of the walk hold at a row: its canonical number, its declared label, its list. A Labeled row and a goto are statements, so that their
+-- word is their list.
 -- Assumes nothing.
 use mathlib.Core.Path.{_≡_, sym, _∙_, ap}
 use mathlib.Core.Bool.{true, false}

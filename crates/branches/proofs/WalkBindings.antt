@@ -1,4 +1,5 @@
--- The bindings of the walk, one word a row: those of rows before x are known, the others 0. One row further, the words before it stay unless the row is a label.
+-- The bindings of the walk, one word a row: those of rows before x are known, the others 0. One row further, the words before it stay unless the row is
+-- a label.
 -- Assumes nothing.
 use mathlib.Core.Path.{_≡_, sym, _∙_, ap}
 use mathlib.Core.Bool.{true, false}
@@ -63,7 +64,8 @@ module _ (w p b : List ℕ) where
   bindings-from x g h l = bindings-at x g h ∙ word-from x g l
 
   -- the first words of a list are these when they are one by one
-  pub bindings-are : (x : ℕ) (t : List ℕ) → rowCount w ≤ length t → ((g : ℕ) → g < rowCount w → getD t g 0 ≡ wordAt x g) → take (rowCount w) t ≡ bindingsAt w p b x
+  pub bindings-are : (x : ℕ) (t : List ℕ) → rowCount w ≤ length t → ((g : ℕ) → g < rowCount w → getD t g 0 ≡ wordAt x g)
+      → take (rowCount w) t ≡ bindingsAt w p b x
   bindings-are x t h e =
       let n = length-take-le (rowCount w) t h in
       ext-getD 0 (take (rowCount w) t) (bindingsAt w p b x) (n ∙ sym (bindings-length x))
@@ -134,7 +136,8 @@ module _ (w p b : List ℕ) where
       other-same n = at-other (suc x) g n ∙ sym (at-other x g n)
 
   -- a row that is no label: its own word is set, the others stay
-  module _ (x : ℕ) (row : x < rowCount w) (n : isLabel w p b 0 x ≡ false) (t : List ℕ) (room : rowCount w ≤ length t) (bound : take (rowCount w) t ≡ bindingsAt w p b x) where
+  module _ (x : ℕ) (row : x < rowCount w) (n : isLabel w p b 0 x ≡ false) (t : List ℕ) (room : rowCount w ≤ length t)
+      (bound : take (rowCount w) t ≡ bindingsAt w p b x) where
     others : (g : ℕ) → g < rowCount w → (g ≡ x → ⊥) → getD t g 0 ≡ wordAt (suc x) g
     others g h o = are-bindings x t g bound h ∙ elim (decLt g x) [
       | yes l ↦ word-before x g l ∙ sym (binding-same x g (not-later x g n)) ∙ sym (word-before (suc x) g (omega arith))

@@ -1,4 +1,5 @@
--- The room on the sheet, two faults a row: a label reports at most two of its own, or none and keeps room for its 9; a goto keeps room for one as long as it is pending,
+-- The room on the sheet, two faults a row: a label reports at most two of its own, or none and keeps room for its 9; a goto keeps room for one as long
+-- as it is pending,
 -- which a 3 at its label takes; other rows report at most one.
 -- Assumes nothing.
 use mathlib.Core.Path.{_≡_, _∙_, ap}

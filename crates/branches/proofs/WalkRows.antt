@@ -1,4 +1,5 @@
--- One row of the walk that is no label: the state after it, from the state before it and what the row did, by what it reports, what it binds and whether it is pending.
+-- One row of the walk that is no label: the state after it, from the state before it and what the row did, by what it reports, what it binds and whether
+-- it is pending.
 -- Assumes nothing.
 use mathlib.Core.Path.{_≡_, refl, sym, _∙_, ap}
 use mathlib.Core.Bool.{true, false}
@@ -39,7 +40,8 @@ module _ (w p b : List ℕ) where
   )
 
   -- a row that is one
-  pub links-block : (x v : ℕ) (links : List ℕ) → x < rowCount w → v ≡ word (currentLabel w p b x) → BlockLinks w p b x links → BlockLinks w p b (suc x) (set links x v)
+  pub links-block : (x v : ℕ) (links : List ℕ) → x < rowCount w → v ≡ word (currentLabel w p b x) → BlockLinks w p b x links
+      → BlockLinks w p b (suc x) (set links x v)
   links-block x v links row e l = (
     rw length-set (l .0),
     λ k h t. elim (ℕ-discrete k x) [
@@ -49,7 +51,8 @@ module _ (w p b : List ℕ) where
   )
 
   -- other words may change at rows that are none
-  pub links-kept : (x : ℕ) (links links′ : List ℕ) → rowCount w ≤ length links′ → ((k : ℕ) → k < x → isBlock (class w k) ≡ true → getD links′ k 0 ≡ getD links k 0)
+  pub links-kept : (x : ℕ) (links links′ : List ℕ) → rowCount w ≤ length links′
+      → ((k : ℕ) → k < x → isBlock (class w k) ≡ true → getD links′ k 0 ≡ getD links k 0)
       → BlockLinks w p b x links → BlockLinks w p b x links′
   links-kept x links links′ room same l = (room, λ k h t. same k h t ∙ l .1 k h t)
 

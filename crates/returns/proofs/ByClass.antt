@@ -5,7 +5,7 @@ use mathlib.Core.Path.{_≡_, refl, sym, _∙_, ap}
 use mathlib.Core.Bool.{Bool, true, false, _&&_, _||_, not}
 use mathlib.Core.Logic.{_⊎_, inl, inr, ⊎-elim}
 use mathlib.Core.List.{List, [], _∷_}
-use Prim.Native.Nat.{ℕ, zero, suc, _+_, _-_, _*_, _≤_, _<_}
+use Prim.Native.Nat.{ℕ, suc, _+_, _-_, _*_, _≤_, _<_}
 use native.Mathlib.Omega.{arith}
 use native.Mathlib.Decide.{decLt}
 use borrow.Author.Tests.{not-true}
@@ -16,7 +16,7 @@ use Rattle.rules.specs.Scope.{isList, onlyEmpty}
 use Rattle.rules.specs.Labels.{isClass}
 use Rattle.rules.specs.Verdict.{hasDefault, hasBreak, terminating, terminatingList, terminatingClauses}
 use Rattle.rules.specs.Body.{Body, fits}
-use Rattle.rules.proofs.Test.{case-of, clash, or-true}
+use Rattle.rules.proofs.Test.{case-of, or-true}
 use Rattle.rules.proofs.Every.{every, is-one}
 use Rattle.rules.proofs.Shape.{opens}
 use Rattle.rules.proofs.ClassRules.{isClauseBlock, isNever, isAlways, opens-holds, class-rule, child-rule}
@@ -124,8 +124,9 @@ module _ {w p b : List ℕ} (body : Body w p b) where
         let n : suc r < rowCount w = omega arith in
         let f : ℕ = s - 1 in
         let z : s ≡ suc f = omega arith in
+        let k = opens-block (class w r) (class w (suc r)) t (body .child-fits r (suc r) h (here l)) in
         let inner : terminating w p b 0 s (suc r) ≡ clausesEnd w p b (end w r) (suc (suc r)) =
-        ap (λ (x : ℕ). terminating w p b 0 x (suc r)) z ∙ terminating-clauses w p b 0 f (suc r) (opens-block (class w r) (class w (suc r)) t (body .child-fits r (suc r) h (here l)))
+        ap (λ (x : ℕ). terminating w p b 0 x (suc r)) z ∙ terminating-clauses w p b 0 f (suc r) k
         ∙ at-clauses f (end w (suc r)) (suc (suc r)) (closed-below body (suc r) n) (omega arith)
         ∙ ap (λ (x : ℕ). clausesEnd w p b x (suc (suc r))) q in
         taken s (omega arith) ∙ ⊎-elim
@@ -162,8 +163,8 @@ module _ {w p b : List ℕ} (body : Body w p b) where
         case-of (onlyEmpty w 0 (end w c) e) (λ t. absurd (full (only-empty w 0 (end w c) e t s (item-from i) (item-before i)))) (λ t. t) in
         sym (at-list (suc f) e c a (omega arith)) ∙ list-more w p b 0 f e c l more ∙ at-list f e (end w c) m (omega arith) ∙ list-by-item m i
 
-  pub list-is-last : {c e s : ℕ} → Closed w c e → Last w c e s → isTerminatingList w p b e c ≡ isTerminating w p b s
-  list-is-last a l = list-by-item (l .no-empty) (l .rest) a (l .item)
+  pub last-answer : {c e s : ℕ} → Closed w c e → Last w c e s → {t : Bool} → t ≡ isTerminating w p b s → t ≡ isTerminatingList w p b e c
+  last-answer a l q = q ∙ sym (list-by-item (l .no-empty) (l .rest) a (l .item))
 
   -- ---- the clauses
   pub clauses-ended : (e c : ℕ) → e ≤ c → clausesEnd w p b e c ≡ true

@@ -1,31 +1,44 @@
--- What a row's own words say of its class, and with it of the verdict: one test over the table of the allowed details for each arm of the statement rule.
+-- What a row's own words say of its class: each rule is one test over the table of the allowed details, and the row before tells only Blocks apart.
 -- Assumes nothing.
 use mathlib.Core.Path.{_≡_, refl, sym, _∙_, ap}
-use mathlib.Core.Bool.{Bool, true, false, _&&_, _||_, not}
+use mathlib.Core.Bool.{Bool, true, false, _&&_, not}
 use mathlib.Core.List.{List, [], _∷_}
-use Prim.Native.Nat.{ℕ, zero, suc, _<_}
-use native.Mathlib.Omega.{arith}
-use lib.Dec.{eqb, leb}
-use borrow.Author.Tests.{eq-eqb, ne-eqb, not-true}
+use Prim.Native.Nat.{ℕ, zero, suc}
+use lib.Dec.{eqb}
+use borrow.Author.Tests.{ne-eqb, not-true}
 use Rattle.rules.specs.Scan.{lowest}
-use Rattle.rules.specs.Rows.{rowCount, kind, detail}
-use Rattle.rules.specs.Class.{Class, empty, labeled, break, block, caseBlock, commBlock, ifElse, select, for, oneOf, isSwitch, isBreakable, isBranch, isCase, isComm, isStatement, detailAllowed, classOf, base, following, class}
+use Rattle.rules.specs.Rows.{kind, detail}
+use Rattle.rules.specs.Class.{
+  Class,
+  empty,
+  labeled,
+  break,
+  block,
+  ifElse,
+  select,
+  for,
+  oneOf,
+  isSwitch,
+  isBreakable,
+  isBranch,
+  isStatement,
+  detailAllowed,
+  classOf,
+  base,
+  following,
+  class,
+}
 use Rattle.rules.specs.Labels.{isClass}
-use Rattle.rules.specs.Body.{Body}
-use Rattle.rules.proofs.Test.{case-of, clash, and-true}
+use Rattle.rules.proofs.Test.{and-true}
 use Rattle.rules.proofs.Every.{every, implies, implied, same, same-eq, classAt, of-class, of-classes, is-one}
 use Rattle.rules.proofs.Details.{of-allowed}
-use Rattle.rules.proofs.ByKind.{among, NoneOf, none-among, switches}
+use Rattle.rules.proofs.ByKind.{among, switches}
 use Rattle.rules.proofs.Classes.{no-block, is-block}
 use Rattle.rules.proofs.Shape.{opens}
-use Rattle.rules.proofs.ClassRules.{isNever, isAlways, class-rule}
-use Rattle.rules.proofs.RowNames.{base-class}
-use Rattle.rules.proofs.Terminating.{isDefault}
-use Rattle.returns.specs.Search.{isTerminating}
-use Rattle.returns.proofs.ByClass.{row-settled}
+use Rattle.rules.proofs.ClassRules.{class-rule}
 
 -- the test holds of every allowed kind and detail
-abbrev Tabled : (ℕ → ℕ → Bool) → Type 0
+abbrev pub Tabled : (ℕ → ℕ → Bool) → Type 0
 Tabled P = every 21 (λ k. every 4 (λ d. implies (detailAllowed k d) (P k d))) ≡ true
 
 -- a rule of the class and of what the row's own words say: the row before tells only Blocks apart
@@ -115,53 +128,3 @@ module _ (w : List ℕ) (r : ℕ) (a : detailAllowed (kind w r) (detail w r) ≡
   unfolding every lowest
   other-no-break n = not-true (isClass w break r)
       (class-rule (λ c. not (isBranch c)) (λ c. not (oneOf (break ∷ []) c)) refl (class w r) (rw (← branch-kinds, ne-eqb (kind w r) 11 n)))
-
--- ---- the verdict on a row that its class settles
-abbrev settles : Bool → Class → Bool
-settles t c = same t (isAlways c) && (isNever c || isAlways c)
-
--- the kinds with an arm of their own
-abbrev pub arms : List ℕ
-arms = 19 ∷ 18 ∷ 16 ∷ 15 ∷ 13 ∷ 12 ∷ 11 ∷ 10 ∷ 4 ∷ 3 ∷ []
-
-module _ {w p b : List ℕ} (body : Body w p b) (r : ℕ) (h : r < rowCount w) where
-  settled : (t : Bool) → settles t (class w r) ≡ true → t ≡ isTerminating w p b r
-  settled t s =
-      let x = and-true (same t (isAlways (class w r))) (isNever (class w r) || isAlways (class w r)) s in
-      same-eq t (isAlways (class w r)) (x .0) ∙ sym (row-settled body r h (x .1))
-
-  -- where the kind and detail pass, the table settles it as A says
-  answers : (P A : ℕ → ℕ → Bool) → Tabled (λ k d. implies (P k d) (settles (A k d) (classOf k d)))
-      → eqb (kind w r) 12 ≡ false → P (kind w r) (detail w r) ≡ true → A (kind w r) (detail w r) ≡ isTerminating w p b r
-  unfolding base
-  answers P A e n t =
-      settled (A (kind w r) (detail w r)) (ap (settles (A (kind w r) (detail w r))) (no-block w r (body .details r h) n)
-      ∙ implied (P (kind w r) (detail w r)) (settles (A (kind w r) (detail w r)) (classOf (kind w r) (detail w r)))
-      (of-allowed (λ k d. implies (P k d) (settles (A k d) (classOf k d))) e (kind w r) (detail w r) (body .details r h)) t)
-
-  pub expr-answer : kind w r ≡ 4 → eqb (detail w r) 1 ≡ isTerminating w p b r
-  unfolding every lowest detailAllowed classOf
-  expr-answer k = answers (λ k d. eqb k 4) (λ k d. eqb d 1) refl (rw k) (rw k)
-
-  pub return-answer : kind w r ≡ 10 → true ≡ isTerminating w p b r
-  unfolding every lowest detailAllowed classOf
-  return-answer k = answers (λ k d. eqb k 10) (λ k d. true) refl (rw k) (rw k)
-
-  pub branch-answer : kind w r ≡ 11 → leb 2 (detail w r) ≡ isTerminating w p b r
-  unfolding every lowest detailAllowed classOf
-  branch-answer k = answers (λ k d. eqb k 11) (λ k d. leb 2 d) refl (rw k) (rw k)
-
-  pub if-answer : kind w r ≡ 13 → detail w r ≡ 0 → false ≡ isTerminating w p b r
-  unfolding every lowest detailAllowed classOf
-  if-answer k d = answers (λ k d. eqb k 13 && eqb d 0) (λ k d. false) refl (rw k) (rw (k, d))
-
-  pub for-answer : kind w r ≡ 19 → detail w r ≡ 1 → false ≡ isTerminating w p b r
-  unfolding every lowest detailAllowed classOf
-  for-answer k d = answers (λ k d. eqb k 19 && eqb d 1) (λ k d. false) refl (rw k) (rw (k, d))
-
-  pub other-answer : NoneOf arms (kind w r) → isStatement (class w r) ≡ true → false ≡ isTerminating w p b r
-  unfolding every lowest detailAllowed classOf base
-  other-answer n s =
-      let o = ne-eqb (kind w r) 12 (n .0 .0 .0 .0 .0 .1) in
-      let t : isStatement (classOf (kind w r) (detail w r)) ≡ true = sym (ap isStatement (no-block w r (body .details r h) o)) ∙ s in
-      answers (λ k d. not (among arms k) && isStatement (classOf k d)) (λ k d. false) refl o (rw (none-among arms (kind w r) n, t))

@@ -2,26 +2,23 @@
 -- A clause is itself no break and holds none, so the breaks that leave it are those that leave its list.
 -- Assumes nothing.
 use mathlib.Core.Path.{_≡_, refl, sym, _∙_, ap}
-use mathlib.Core.Bool.{Bool, true, false, _&&_, _||_, not, and-true, and-false, or-true, or-false}
+use mathlib.Core.Bool.{Bool, true, false, _&&_, _||_, not, and-false}
 use mathlib.Core.List.{List, [], _∷_}
-use Prim.Native.Nat.{ℕ, zero, suc, _+_, _-_, _*_, _≤_, _<_}
+use Prim.Native.Nat.{ℕ, suc, _-_, _≤_, _<_}
 use native.Mathlib.Omega.{arith}
-use native.Mathlib.Numerals.{add-one}
 use lib.Dec.{eqb}
-use borrow.Author.Tests.{ne-eqb, not-true}
+use borrow.Author.Tests.{not-true}
 use Rattle.rules.specs.Scan.{lowest}
 use Rattle.rules.specs.Rows.{rowCount, kind, detail, size, end, Item, here}
 use Rattle.rules.specs.Class.{Class, break, block, caseBlock, commBlock, select, oneOf, isBreakable, isCase, isComm, classOf, base, detailAllowed, class}
 use Rattle.rules.specs.Scope.{isList}
 use Rattle.rules.specs.Labels.{isClass}
 use Rattle.rules.specs.Verdict.{anyDefault, hasDefault, hasBreak}
-use Rattle.rules.specs.Body.{Body, fits}
-use Rattle.rules.proofs.Test.{case-of, clash}
+use Rattle.rules.specs.Body.{Body}
 use Rattle.rules.proofs.Every.{every, implies, implied, same, same-eq}
 use Rattle.rules.proofs.Details.{of-allowed}
 use Rattle.rules.proofs.Shape.{opens}
 use Rattle.rules.proofs.ClassRules.{isClauseBlock, class-rule, child-rule, opens-holds}
-use Rattle.rules.proofs.Nesting.{item-next, item-from}
 use Rattle.rules.proofs.RowNames.{base-class}
 use Rattle.rules.proofs.Terminating.{isDefault, any-default-more, any-default-none, has-default}
 use Rattle.returns.specs.Search.{labelNumber, Closed, isTerminating, isTerminatingList, anyLeaves}
@@ -30,7 +27,6 @@ use Rattle.returns.proofs.Enough.{enough-defaults}
 use Rattle.returns.proofs.ByClass.{clausesEnd, opens-block, row-opens, clauses-ended, clauses-next}
 use Rattle.returns.proofs.Leaving.{any-apart, any-none, any-below}
 use Rattle.returns.proofs.Referring.{has-break-below}
-use Rattle.returns.proofs.Calls.{ListCall, list-call}
 
 -- a Case or a Comm
 abbrev pub isClause : Class → Bool
@@ -43,6 +39,10 @@ clause-list = class-rule isClause isList refl
 or-assoc : (x y z : Bool) → (x || y) || z ≡ x || (y || z)
 or-assoc true y z = refl
 or-assoc false y z = refl
+
+nothing-left : (x : Bool) → ((x || false) && true) && true ≡ x
+nothing-left true = refl
+nothing-left false = refl
 
 -- what is left of the clauses from c on, before e: a default, or one found before; no break that leaves them; and each terminating
 abbrev pub left : List ℕ → List ℕ → List ℕ → ℕ → ℕ → ℕ → Bool → Bool
@@ -63,7 +63,7 @@ module _ {w p b : List ℕ} (body : Body w p b) where
 
   pub left-ended : (e label c : ℕ) (found : Bool) → e ≤ c → left w p b e label c found ≡ found
   left-ended e label c found l =
-      rw (any-default-none w (e - c) e c l, any-none w p b c e label true l, clauses-ended body e c l, or-false, and-true, and-true)
+      rw (any-default-none w (e - c) e c l, any-none w p b c e label true l, clauses-ended body e c l) (nothing-left found)
 
   -- ---- the clause c, and what is left after it
   module _ {e c : ℕ} (label : ℕ) (found : Bool) (a : Closed w c e) (l : c < e) (t : isClause (class w c) ≡ true) where
@@ -132,64 +132,3 @@ module _ {w p b : List ℕ} (body : Body w p b) where
 
     pub left-start : left w p b (end w r) (labelNumber w r) (suc (suc r)) (isClass w select r) ≡ isTerminating w p b r
     left-start = sym (row-opens body r h t ∙ rw (default-below, break-below))
-
--- ---- the loop over the clauses, at the clause c: what is left from it on answers as the whole does
-pub record Walk (w p b : List ℕ) (e label first : ℕ) (found : Bool) (c : ℕ) (so-far : Bool) : Type 0 where
-  pub closed : Closed w c e
-  pub item : c < e → Item w e first c
-  pub same : left w p b e label c so-far ≡ left w p b e label first found
-
--- of the row r, whose size n the code has read
-module _ {w p b : List ℕ} (body : Body w p b) (r : ℕ) (h : r < rowCount w) (o : opens (class w r) ≡ true) {n : ℕ} (q : n ≡ size w r) where
-  two : r + 2 ≡ suc (suc r)
-  two = omega arith
-
-  pub begin : (label : ℕ) (found : Bool) → Walk w p b (r + n) label (r + 2) found (r + 2) found
-  begin label found = record { closed = rw (q, two) (clauses-closed body r h o); item = λ l. here l; same = refl }
-
-  module _ {label : ℕ} {found : Bool} {c : ℕ} {so-far : Bool} (a : Walk w p b (r + n) label (r + 2) found c so-far)
-      (x : found ≡ isClass w select r) (y : label ≡ labelNumber w r) where
-    whole : left w p b (r + n) label c so-far ≡ isTerminating w p b r
-    whole = a .same ∙ rw (q, two, x, y) (left-start body r h o)
-
-    pub ended : r + n ≤ c → so-far ≡ isTerminating w p b r
-    ended l = sym (left-ended body (r + n) label c so-far l) ∙ whole
-
-    module _ (l : c < r + n) where
-      pub clause-row : c < rowCount w
-      clause-row = omega (arith, a .closed .within)
-
-      clause : isClause (class w c) ≡ true
-      clause = clause-of body r h o c (rw (q, two) at (a .item l))
-
-      pub clause-call : {t m : ℕ} → 2 * size w r - 1 ≡ t → m ≡ size w c → ListCall w p b t (c + 1) (c + m)
-      clause-call z e =
-          let u = closed-rest body (a .closed) l .order in
-          let v = item-from (a .item l) in
-          list-call body c clause-row (clause-list (class w c) clause) (omega arith) e
-
-      -- m is the clause's size as the code read it, and u and v what the calls answered
-      module _ {m : ℕ} (z : m ≡ size w c) where
-        pub is-open : {u : Bool} → u ≡ isTerminatingList w p b (c + m) (c + 1) → u ≡ false → false ≡ isTerminating w p b r
-        is-open e f = sym (left-open body label so-far (a .closed) l clause (sym (rw (z, add-one c) at e) ∙ f)) ∙ whole
-
-        pub is-left : {u : Bool} → u ≡ anyLeaves w p b (c + 1) (c + m) label true → u ≡ true → false ≡ isTerminating w p b r
-        is-left e f = sym (left-broken body label so-far (a .closed) l clause (sym (rw (z, add-one c) at e) ∙ f)) ∙ whole
-
-        pub next : {u v d : Bool} → u ≡ isTerminatingList w p b (c + m) (c + 1) → u ≡ true → v ≡ anyLeaves w p b (c + 1) (c + m) label true → v ≡ false
-            → d ≡ so-far || isDefault (class w c) → Walk w p b (r + n) label (r + 2) found (c + m) d
-        next e f g k i =
-            record {
-              closed = rw z (closed-rest body (a .closed) l);
-              item = rw z (λ j. item-next (a .item l) j);
-              same =
-                  rw (z, i)
-                  (left-next body label so-far (a .closed) l clause (sym (rw (z, add-one c) at e) ∙ f) (sym (rw (z, add-one c) at g) ∙ k) ∙ a .same);
-            }
-
-      -- the default found so far, after the clause's detail k
-      pub default-yes : {k : ℕ} {d : Bool} → k ≡ detail w c → k ≡ 1 → d ≡ true → d ≡ so-far || isDefault (class w c)
-      default-yes e f g = g ∙ rw (← clause-default body c clause-row clause, ← e, f, or-true)
-
-      pub default-as-before : {k : ℕ} {d : Bool} → k ≡ detail w c → (k ≡ 1 → ⊥) → d ≡ so-far → d ≡ so-far || isDefault (class w c)
-      default-as-before {k} e f g = g ∙ sym (rw (← clause-default body c clause-row clause, ← e, ne-eqb k 1 f, or-false))

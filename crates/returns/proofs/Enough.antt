@@ -1,21 +1,20 @@
 -- Steps enough: twice the rows of a statement, and one more than twice the rows of a list or of clauses, answer as any higher number of steps does.
 -- A statement passes at least one row on to what stands below it, and a list or the clauses at least one with each item; so by induction on the steps.
 -- Assumes nothing.
-use mathlib.Core.Path.{_≡_, refl, sym, _∙_, ap}
-use mathlib.Core.Bool.{Bool, true, false, _&&_, _||_, not}
-use mathlib.Core.List.{List, [], _∷_}
+use mathlib.Core.Path.{_≡_, sym, _∙_, ap}
+use mathlib.Core.Bool.{Bool, _&&_, not}
+use mathlib.Core.List.{List}
 use Prim.Native.Nat.{ℕ, zero, suc, _+_, _-_, _*_, _≤_, _<_}
 use native.Mathlib.Omega.{arith}
 use native.Mathlib.Decide.{decLt}
 use Rattle.rules.specs.Rows.{rowCount, size, end}
-use Rattle.rules.specs.Class.{labeled, ifElse, select, for, isSwitch, class}
-use Rattle.rules.specs.Refusals.{body, holding}
-use Rattle.rules.specs.Scope.{isList, onlyEmpty}
+use Rattle.rules.specs.Class.{class}
+use Rattle.rules.specs.Refusals.{body}
+use Rattle.rules.specs.Scope.{onlyEmpty}
 use Rattle.rules.specs.Verdict.{anyDefault, hasDefault, hasBreak, terminating, terminatingList, terminatingClauses}
 use Rattle.rules.specs.Body.{Body, OneChild, TwoChildren}
 use Rattle.rules.proofs.Test.{case-of}
-use Rattle.rules.proofs.Shape.{opens}
-use Rattle.rules.proofs.ClassRules.{isClauseBlock, opens-holds, by-rule}
+use Rattle.rules.proofs.ClassRules.{opens-holds, by-rule}
 use Rattle.rules.proofs.Terminating.{
   any-default-more,
   any-default-none,
@@ -52,8 +51,8 @@ module _ {w p b : List ℕ} (body : Body w p b) (root : ℕ) where
       one : OneChild w r → terminating w p b root f (suc r) ≡ terminating w p b root g (suc r)
       one (l, e) = let n = body .sized .within r h in m .row g (suc r) (omega arith) (omega arith) (omega arith)
 
-      two : TwoChildren w r
-          → (terminating w p b root f (suc r) && terminating w p b root f (end w (suc r))) ≡ (terminating w p b root g (suc r) && terminating w p b root g (end w (suc r)))
+      two : TwoChildren w r → (terminating w p b root f (suc r) && terminating w p b root f (end w (suc r)))
+          ≡ (terminating w p b root g (suc r) && terminating w p b root g (end w (suc r)))
       two (l, e, k, q) =
           let n = body .sized .within r h in
           let first = m .row g (suc r) (omega arith) (omega arith) (omega arith) in
@@ -74,7 +73,8 @@ module _ {w p b : List ℕ} (body : Body w p b) (root : ℕ) where
         ∙ sym (terminating-statements w p b root g r t))
         (λ t. terminating-clauses w p b root f r t ∙ m .clauses g (end w r) (suc r) (closed-below body r h) xf yg
         ∙ sym (terminating-clauses w p b root g r t))
-        (λ t. terminating-switch w p b root f r t ∙ ap (λ (x : Bool). (hasDefault w r && not (hasBreak w p b root r)) && x) (fill (body .one-block r h (opens-holds (class w r) (rw t))))
+        (λ t. terminating-switch w p b root f r t ∙ ap (λ (x : Bool). (hasDefault w r && not (hasBreak w p b root r)) && x)
+        (fill (body .one-block r h (opens-holds (class w r) (rw t))))
         ∙ sym (terminating-switch w p b root g r t))
         (λ e. terminating-labeled w p b root f r e ∙ fill (body .one-statement r h (rw e)) ∙ sym (terminating-labeled w p b root g r e))
         (λ e. terminating-ifElse w p b root f r e ∙ two r h x y (body .two-parts r h (rw e)) ∙ sym (terminating-ifElse w p b root g r e))
@@ -83,7 +83,8 @@ module _ {w p b : List ℕ} (body : Body w p b) (root : ℕ) where
         (λ e. terminating-for w p b root f r e ∙ sym (terminating-for w p b root g r e))
 
     -- the first item of a list leaves fewer rows, and is itself no longer than the list
-    list-step : (e c : ℕ) → Closed w c e → 2 * (e - c) + 1 ≤ suc f → 2 * (e - c) + 1 ≤ suc g → terminatingList w p b root (suc f) e c ≡ terminatingList w p b root (suc g) e c
+    list-step : (e c : ℕ) → Closed w c e → 2 * (e - c) + 1 ≤ suc f → 2 * (e - c) + 1 ≤ suc g
+        → terminatingList w p b root (suc f) e c ≡ terminatingList w p b root (suc g) e c
     list-step e c a x y = elim (decLt c e) [
       | no n ↦ list-none w p b root (suc f) e c (omega arith) ∙ sym (list-none w p b root (suc g) e c (omega arith))
       | yes l ↦
@@ -92,7 +93,8 @@ module _ {w p b : List ℕ} (body : Body w p b) (root : ℕ) where
           let k = closed-rest body a l .order in
           case-of (onlyEmpty w root (end w c) e)
           (λ t. list-last w p b root f e c l t ∙ m .row g c h (omega arith) (omega arith) ∙ sym (list-last w p b root g e c l t))
-          (λ t. list-more w p b root f e c l t ∙ m .list g e (end w c) (closed-rest body a l) (omega arith) (omega arith) ∙ sym (list-more w p b root g e c l t))
+          (λ t. list-more w p b root f e c l t ∙ m .list g e (end w c) (closed-rest body a l) (omega arith) (omega arith)
+          ∙ sym (list-more w p b root g e c l t))
     ]
 
     clauses-step : (e c : ℕ) → Closed w c e → 2 * (e - c) + 1 ≤ suc f → 2 * (e - c) + 1 ≤ suc g

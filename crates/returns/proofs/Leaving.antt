@@ -3,24 +3,23 @@
 -- Assumes nothing.
 use mathlib.Core.Path.{_≡_, refl, sym, _∙_, ap}
 use mathlib.Core.Bool.{Bool, true, false, _&&_, _||_, not, or-true, and-true as true-and}
-use mathlib.Core.Logic.{_⊎_, inl, inr, ⊎-elim}
-use mathlib.Core.Option.{Option, none, some}
+use mathlib.Core.Logic.{⊎-elim}
 use mathlib.Core.List.{List, [], _∷_}
-use Prim.Native.Nat.{ℕ, zero, suc, _+_, _≤_, _<_}
+use Prim.Native.Nat.{ℕ, suc, _≤_, _<_}
 use native.Mathlib.Omega.{arith}
 use native.Mathlib.Decide.{decLt, ℕ-discrete}
 use lib.Dec.{ltb, leb, eqb}
 use borrow.Author.Tests.{ltb-true, leb-true, eqb-true, eqb-false, lt-ltb, le-leb, eq-eqb, ne-eqb, not-true}
 use Rattle.rules.specs.Scan.{lowest, highest}
-use Rattle.rules.specs.Rows.{rowCount, name, size, end}
+use Rattle.rules.specs.Rows.{name, size, end}
 use Rattle.rules.specs.Class.{Class, break, oneOf, isBreakable, class}
 use Rattle.rules.specs.Names.{sameName}
-use Rattle.rules.specs.Labels.{isSome, isClass}
+use Rattle.rules.specs.Labels.{isClass}
 use Rattle.rules.proofs.Test.{case-of, case-found, clash, and-true, or-true as or-cases}
-use Rattle.rules.proofs.Scan.{lowest-none, lowest-found, highest-none, highest-found, none-highest}
+use Rattle.rules.proofs.Scan.{lowest-none, lowest-found, highest-none, highest-found}
 use Rattle.rules.proofs.Every.{every, is-one}
 use Rattle.rules.proofs.ClassRules.{class-rule}
-use Rattle.returns.specs.Search.{Closed, exposed, leaves, anyLeaves}
+use Rattle.returns.specs.Search.{exposed, leaves, anyLeaves}
 
 -- two tests that each follow from the other
 pub both : (s t : Bool) → (s ≡ true → t ≡ true) → (t ≡ true → s ≡ true) → s ≡ t

@@ -4,5 +4,7 @@ pub mod ByClass
 pub mod Leaving
 pub mod Referring
 pub mod ByWords
-pub mod Clauses
 pub mod Calls
+pub mod Clauses
+pub mod RowRule
+pub mod SwitchRule

@@ -1,25 +1,22 @@
 -- Ranges of rows in which whatever begins ends: those below a row, what is left of one after its first item, and that item itself.
 -- A Labeled row is filled by its one child, so it is not the last row of anything: no label stands on an item that follows another.
 -- Assumes nothing.
-use mathlib.Core.Path.{_≡_, refl, sym, _∙_, ap}
-use mathlib.Core.Bool.{Bool, true, false, not}
+use mathlib.Core.Path.{_≡_, refl, _∙_, ap}
+use mathlib.Core.Bool.{true, false, not}
 use borrow.Author.Tests.{not-true}
 use mathlib.Core.List.{List, [], _∷_}
-use Prim.Native.Nat.{ℕ, zero, suc, _+_, _-_, _≤_, _<_}
+use Prim.Native.Nat.{ℕ, suc, _-_, _≤_, _<_}
 use native.Mathlib.Omega.{arith}
-use native.Mathlib.Numerals.{add-one}
 use native.Mathlib.Decide.{decLt}
 use Rattle.rules.specs.Scan.{lowest}
-use Rattle.rules.specs.Rows.{rowCount, name, size, end, Item, here, later, Child}
-use Rattle.rules.specs.Class.{Class, labeled, oneOf, isStatement, class}
-use Rattle.rules.specs.Refusals.{statement, holding}
+use Rattle.rules.specs.Rows.{rowCount, name, end, Item, here, later}
+use Rattle.rules.specs.Class.{labeled, oneOf, isStatement, class}
 use Rattle.rules.specs.Scope.{isList}
-use Rattle.rules.specs.Body.{Body, fits}
+use Rattle.rules.specs.Body.{Body}
 use Rattle.rules.specs.Labels.{isClass}
-use Rattle.rules.proofs.Test.{case-of, clash}
+use Rattle.rules.proofs.Test.{case-of}
 use Rattle.rules.proofs.Every.{every, is-one}
 use Rattle.rules.proofs.ClassRules.{class-rule, child-rule}
-use Rattle.rules.proofs.Nesting.{item-before, item-from}
 use Rattle.returns.specs.Search.{labelNumber, Closed, Statements}
 
 -- ---- the label on a row
@@ -69,10 +66,6 @@ module _ {w p b : List ℕ} (body : Body w p b) where
   pub label-of-item : {c e s : ℕ} → e ≤ rowCount w → Item w e c s → labelNumber w c ≡ 0 → labelNumber w s ≡ 0
   label-of-item m (here l) z = z
   label-of-item {c} m (later l i) z = label-of-item m i (label-after c (omega arith))
-
-  -- the else part of an If
-  pub label-of-child : (r : ℕ) → isClass w labeled r ≡ false → labelNumber w (suc r) ≡ 0
-  label-of-child r f = no-label-on w r f
 
   -- ---- the list of a row that holds one
   pub list-label : (q : ℕ) → isList (class w q) ≡ true → labelNumber w (suc q) ≡ 0

@@ -2,20 +2,18 @@
 -- so nothing below holds it; and a labelled one names the label directly on the statement, however deep it stands.
 -- Assumes nothing.
 use mathlib.Core.Path.{_≡_, refl, sym, _∙_, ap}
-use mathlib.Core.Bool.{Bool, true, false}
-use mathlib.Core.Option.{none, some}
-use mathlib.Core.List.{List, [], _∷_}
-use Prim.Native.Nat.{ℕ, zero, suc, _≤_, _<_}
+use mathlib.Core.Bool.{true}
+use mathlib.Core.List.{List}
+use Prim.Native.Nat.{ℕ, zero, suc, _<_}
 use native.Mathlib.Omega.{arith}
 use native.Mathlib.Decide.{decLt, ℕ-discrete}
 use Rattle.rules.specs.Rows.{rowCount, name, end}
 use Rattle.rules.specs.Class.{labeled, break, isBreakable, class}
-use Rattle.rules.specs.Names.{sameName}
 use Rattle.rules.specs.Scope.{innermost}
 use Rattle.rules.specs.Labels.{isClass}
 use Rattle.rules.specs.Verdict.{refersTo, hasBreak}
 use Rattle.rules.specs.Body.{Body}
-use Rattle.rules.proofs.Test.{case-of, case-found, clash}
+use Rattle.rules.proofs.Test.{case-of, case-found}
 use Rattle.rules.proofs.Every.{is-one}
 use Rattle.rules.proofs.Around.{Innermost, innermost-found, innermost-last, innermost-none}
 use Rattle.rules.proofs.RowNames.{same-sym, labeled-named}

@@ -1,7 +1,10 @@
-use mathlib.Core.Path.{_≡_, refl, sym, _∙_, ap}
+-- The two searches for a break call each other, each on fewer rows: twice the rows of a statement, and one more than that of a list. At a row the search
+-- answers as that below it does, and through a list what is left, from the next item on, answers as the whole does.
+-- Assumes nothing.
+use mathlib.Core.Path.{_≡_, refl, sym, _∙_}
 use mathlib.Core.Bool.{Bool, true, false, _||_}
 use mathlib.Core.List.{List}
-use Prim.Native.Nat.{ℕ, suc, _+_, _-_, _*_, _^_, _≤_, _<_}
+use Prim.Native.Nat.{ℕ, suc, _+_, _-_, _*_, _≤_, _<_}
 use native.Mathlib.Omega.{arith}
 use native.Mathlib.Numerals.{add-one}
 use borrow.Author.Needs.{needs}
@@ -12,7 +15,7 @@ use Rattle.rules.proofs.Classes.{row-holding}
 use Rattle.returns.specs.Search.{Closed, leaves, anyLeaves}
 use Rattle.returns.proofs.Ranges.{closed-below, closed-rest, closed-item}
 use Rattle.returns.proofs.Leaving.{any-apart, any-none, any-unnamed, any-leaf, any-below, any-held}
-use Rattle.returns.proofs.ByWords.{breakable-words, other-no-break, branch-kinds}
+use Rattle.returns.proofs.ByWords.{breakable-words, other-no-break}
 use borrow.Fn.Kinds.{In}
 use borrow.Fn.PlainCycle.{Measures, is, falls, and}
 use Rattle.returns.proofs.has_break.Reads as has-break
@@ -28,34 +31,51 @@ use Rattle.rows.proofs.size.Reads as size-reads
 use Rattle.returns.proofs.+has_break+has_break_list.{statement}
 use Rattle.returns.proofs.+has_break+has_break_list.Tie.{close}
 
--- ---- the search below a row
-module _ {w p b : List ℕ} (body : Body w p b) (r : ℕ) (h : r < rowCount w) where
-  -- a Branch has nothing below it
-  own : kind w r ≡ 11 → (label : ℕ) (implicit : Bool) → leaves w p b r label implicit r ≡ anyLeaves w p b r (end w r) label implicit
-  unfolding classOf
-  own k label implicit = sym (any-leaf w p b r label implicit (body .leaf r h (row-holding w r (body .details r h) 11 k refl refl)))
+-- ---- the search at a row and below it
 
-  -- what `is_breakable` says of a kind k, said of the row of that kind
-  breakable : {k : ℕ} {t u : Bool} → k ≡ kind w r → ((d : ℕ) → detailAllowed k d ≡ true → t ≡ isBreakable (classOf k d)) → t ≡ u → isBreakable (class w r) ≡ u
-  breakable e f g =
-      sym (breakable-words w r (body .details r h)) ∙ rw (← e) (sym (f (detail w r) (rw e (body .details r h)))) ∙ g
+-- a Branch has nothing below it
+at-branch : {w p b : List ℕ} → Body w p b → (r : ℕ) → r < rowCount w → {k : ℕ} → k ≡ kind w r → k ≡ 11 → (label : ℕ) (implicit : Bool) {v : Bool}
+    → v ≡ leaves w p b r label implicit r → v ≡ anyLeaves w p b r (end w r) label implicit
+unfolding classOf
+at-branch {w} {p} {b} body r h q e label implicit f =
+    f ∙ sym (any-leaf w p b r label implicit (body .leaf r h (row-holding w r (body .details r h) 11 (sym q ∙ e) refl refl)))
 
-  -- its rows are fewer; n is its size as the code read it
-  module _ {n : ℕ} (q : n ≡ size w r) where
-    below : {t : ℕ} → 2 * size w r ≡ t → (2 * ((r + n) - (r + 1)) + 1 < t) × (Body w p b × Closed w (r + 1) (r + n))
-    below e = let x = body .sized .some-rows r h in (omega arith, (body, rw (add-one r, q) (closed-below body r h)))
+-- the row r has the kind k and the size n, and t is its measure
+record Known (w p b : List ℕ) (t r k n : ℕ) : Type 0 where
+  measure : 2 * size w r ≡ t
+  body : Body w p b
+  row : r < rowCount w
+  kind-is : k ≡ kind w r
+  size-is : n ≡ size w r
 
-    module _ (label : ℕ) (implicit : Bool) where
-      -- a row that a break can leave holds the unlabelled ones
-      held : isBreakable (class w r) ≡ true → {t : Bool} → t ≡ anyLeaves w p b (r + 1) (r + n) label false → t ≡ anyLeaves w p b r (end w r) label implicit
-      held k e = e ∙ rw (add-one r, q) (sym (any-held w p b r label implicit k))
+module _ {w p b : List ℕ} {t r k n : ℕ} (a : Known w p b t r k n) where
+  -- the rows below are fewer
+  below : (2 * ((r + n) - (r + 1)) + 1 < t) × (Body w p b × Closed w (r + 1) (r + n))
+  below =
+      let x = a .body .sized .some-rows r (a .row) in
+      let y = a .measure in
+      let z = a .size-is in
+      (omega arith, (a .body, rw (a .size-is, add-one r) (closed-below (a .body) r (a .row))))
 
-      through : isBreakable (class w r) ≡ false → (kind w r ≡ 11 → ⊥) → {t : Bool} → t ≡ anyLeaves w p b (r + 1) (r + n) label implicit
-          → t ≡ anyLeaves w p b r (end w r) label implicit
-      through m k e = e ∙ rw (add-one r, q) (sym (any-below w p b r label implicit (other-no-break w r (body .details r h) k) m))
+  -- u is what `is_breakable` says of the kind
+  module _ {u : Bool} (f : (d : ℕ) → detailAllowed k d ≡ true → u ≡ isBreakable (classOf k d)) (label : ℕ) (implicit : Bool) where
+    breakable : isBreakable (class w r) ≡ u
+    breakable =
+        let e = a .body .details r (a .row) in
+        sym (breakable-words w r e) ∙ rw (← a .kind-is) (sym (f (detail w r) (rw (a .kind-is) e)))
 
-  unnamed : isBreakable (class w r) ≡ true → (label : ℕ) (implicit : Bool) → label ≡ 0 → false ≡ anyLeaves w p b r (end w r) label implicit
-  unnamed k label implicit z = sym (any-held w p b r label implicit k ∙ rw z (any-unnamed w p b (suc r) (end w r)))
+    -- without a label, nothing leaves a row that a break can leave
+    unnamed : u ≡ true → label ≡ 0 → false ≡ anyLeaves w p b r (end w r) label implicit
+    unnamed y z = sym (any-held w p b r label implicit (breakable ∙ y) ∙ rw z (any-unnamed w p b (suc r) (end w r)))
+
+    -- it holds the unlabelled breaks below it, and any other row holds none
+    held : u ≡ true → {v : Bool} → v ≡ anyLeaves w p b (r + 1) (r + n) label false → v ≡ anyLeaves w p b r (end w r) label implicit
+    held y g = rw (a .size-is, add-one r) at g ∙ sym (any-held w p b r label implicit (breakable ∙ y))
+
+    through : u ≡ false → (k ≡ 11 → ⊥) → {v : Bool} → v ≡ anyLeaves w p b (r + 1) (r + n) label implicit → v ≡ anyLeaves w p b r (end w r) label implicit
+    through y z g =
+        let e = other-no-break w r (a .body .details r (a .row)) (λ o. z (a .kind-is ∙ o)) in
+        rw (a .size-is, add-one r) at g ∙ sym (any-below w p b r label implicit e (breakable ∙ y))
 
 -- ---- the search through a list: what is left, from the item c on, answers as the whole does
 record Walk (w p b : List ℕ) (e label : ℕ) (implicit : Bool) (from c : ℕ) : Type 0 where
@@ -123,11 +143,40 @@ has-break-list-below t =
     has-break-list.Pre
 
 abbrev has-break-calls : ℕ → has-break-lts.Claims
-has-break-calls t = (kind-reads.Asked, kind-reads.Learnt, is-break-reads.Asked, is-break-reads.Learnt, size-reads.Asked, size-reads.Learnt, is-breakable-reads.Asked, is-breakable-reads.Learnt, has-break-list-below t, has-break-list.Post)
+has-break-calls t = (
+  kind-reads.Asked,
+  kind-reads.Learnt,
+  is-break-reads.Asked,
+  is-break-reads.Learnt,
+  size-reads.Asked,
+  size-reads.Learnt,
+  is-breakable-reads.Asked,
+  is-breakable-reads.Learnt,
+  has-break-list-below t,
+  has-break-list.Post,
+)
 
 abbrev has-break-list-calls : ℕ → has-break-list-lts.Claims
 has-break-list-calls t = (has-break-below t, has-break.Post, size-reads.Asked, size-reads.Learnt)
 
+-- ---- what is known of the row once the code has read its kind and size
+abbrev Known-at : (t : ℕ) → has-break-lts.After-struct-known2 (has-break-calls t) (has-break-at t) has-break.Post → Type 0
+Known-at t c =
+    let a = c .before .before .before .before .before .before .before .before .args in
+    Known (a .rows .now) (a .pairs .now) (a .bytes .now) t (a .row .0) (c .before .before .before .before .kind .result) (c .before .size .result)
+
+known : (t : ℕ) (c : has-break-lts.After-struct-known2 (has-break-calls t) (has-break-at t) has-break.Post) → Known-at t c
+known t c =
+    let s = c .before .before .before .before .before .before .before .before in
+    record {
+      measure = s .pre .0;
+      body = s .pre .1 .0;
+      row = s .pre .1 .1;
+      kind-is = c .before .before .before .before .kind .ensures;
+      size-is = c .before .size .ensures;
+    }
+
+-- ---- a row
 has-break-kind-requires : (t : ℕ) → has-break-lts.Need-kind-requires (has-break-calls t) (has-break-at t) has-break.Post
 has-break-kind-requires t c κs = search needs
 
@@ -139,7 +188,7 @@ has-break-is-break-requires t c κs =
 has-break-returns : (t : ℕ) → has-break-lts.Need-returns (has-break-calls t) (has-break-at t) has-break.Post
 has-break-returns t c =
     let s = c .before .before .before .before .before .before in
-    c .is-break .ensures ∙ own (s .pre .1 .0) _ (s .pre .1 .1) (sym (c .before .before .kind .ensures) ∙ c .before .if1 .taken) _ _
+    at-branch (s .pre .1 .0) _ (s .pre .1 .1) (c .before .before .kind .ensures) (c .before .if1 .taken) _ _ (c .is-break .ensures)
 
 has-break-add-end : (t : ℕ) → has-break-lts.Need-add-end (has-break-calls t) (has-break-at t) has-break.Post
 has-break-add-end t c =
@@ -159,80 +208,79 @@ has-break-is-breakable-requires t c κs = search needs
 
 has-break-returns-2 : (t : ℕ) → has-break-lts.Need-returns-2 (has-break-calls t) (has-break-at t) has-break.Post
 has-break-returns-2 t c =
-    let s = c .before .before .before .before .before .before .before .before .before .before .before .before in
-    let p = c .before .before in
-    unnamed (s .pre .1 .0) _ (s .pre .1 .1) (breakable (s .pre .1 .0) _ (s .pre .1 .1) (c .before .before .before .before .before .before .before .before .kind .ensures) (p .before .is-breakable .ensures) (p .if2 .taken)) _ _ (c .if3 .taken)
+    let i = c .before .before in
+    unnamed (known t (i .before .before)) (i .before .is-breakable .ensures) _ _ (i .if2 .taken) (c .if3 .taken)
 
 has-break-has-break-list-requires : (t : ℕ) → has-break-lts.Need-has-break-list-requires (has-break-calls t) (has-break-at t) has-break.Post
-has-break-has-break-list-requires t c κs =
-    let s = c .before .before .before .before .before .before .before .before .before .before .before .before in
-    below (s .pre .1 .0) _ (s .pre .1 .1) (c .before .before .before .before .before .size .ensures) (s .pre .0)
+has-break-has-break-list-requires t c κs = below (known t (c .before .before .before .before))
 
 has-break-returns-3 : (t : ℕ) → has-break-lts.Need-returns-3 (has-break-calls t) (has-break-at t) has-break.Post
 has-break-returns-3 t c =
-    let s = c .before .before .before .before .before .before .before .before .before .before .before .before .before in
-    let p = c .before .before .before in
-    held (s .pre .1 .0) _ (s .pre .1 .1) (c .before .before .before .before .before .before .size .ensures) _ _
-    (breakable (s .pre .1 .0) _ (s .pre .1 .1) (c .before .before .before .before .before .before .before .before .before .kind .ensures) (p .before .is-breakable .ensures) (p .if2 .taken)) (c .has-break-list .ensures)
+    let i = c .before .before .before in
+    held (known t (i .before .before)) (i .before .is-breakable .ensures) _ _ (i .if2 .taken) (c .has-break-list .ensures)
 
 has-break-has-break-list-requires-2 : (t : ℕ) → has-break-lts.Need-has-break-list-requires-2 (has-break-calls t) (has-break-at t) has-break.Post
-has-break-has-break-list-requires-2 t c κs =
-    let s = c .before .before .before .before .before .before .before .before .before .before in
-    below (s .pre .1 .0) _ (s .pre .1 .1) (c .before .before .before .size .ensures) (s .pre .0)
+has-break-has-break-list-requires-2 t c κs = below (known t (c .before .before))
 
 has-break-returns-4 : (t : ℕ) → has-break-lts.Need-returns-4 (has-break-calls t) (has-break-at t) has-break.Post
 has-break-returns-4 t c =
-    let s = c .before .before .before .before .before .before .before .before .before .before .before in
-    let p = c .before in
-    let k = c .before .before .before .before .before .before in
-    through (s .pre .1 .0) _ (s .pre .1 .1) (c .before .before .before .before .size .ensures) _ _
-    (breakable (s .pre .1 .0) _ (s .pre .1 .1) (k .before .kind .ensures) (p .before .is-breakable .ensures) (p .if2 .left))
-    (λ z. k .if1 .left (k .before .kind .ensures ∙ z)) (c .has-break-list2 .ensures)
+    let i = c .before in
+    through (known t (i .before .before)) (i .before .is-breakable .ensures) _ _ (i .if2 .left)
+    (c .before .before .before .before .before .before .if1 .left) (c .has-break-list2 .ensures)
 
+-- ---- a list
 abbrev has-break-list-Inv-loop : has-break-list-lts.InvT-loop
 has-break-list-Inv-loop rows pairs bytes end label implicit c₀ c = Walk rows pairs bytes end (label .0) implicit c₀ c
 
 abbrev has-break-list-μ-loop : has-break-list-lts.MeasureT-loop
 has-break-list-μ-loop rows pairs bytes end label implicit c₀ c = end - c
 
-has-break-list-loop-holds : (t : ℕ) → has-break-list-lts.Need-loop-holds (has-break-list-calls t) (has-break-list-at t) has-break-list.Post has-break-list-Inv-loop has-break-list-μ-loop
+has-break-list-loop-holds :
+    (t : ℕ) → has-break-list-lts.Need-loop-holds (has-break-list-calls t) (has-break-list-at t) has-break-list.Post has-break-list-Inv-loop has-break-list-μ-loop
 has-break-list-loop-holds t c = let s = c .before .before .before in begin (s .pre .1 .0) (s .pre .1 .1)
 
-has-break-list-has-break-requires : (t : ℕ) → has-break-list-lts.Need-has-break-requires (has-break-list-calls t) (has-break-list-at t) has-break-list.Post has-break-list-Inv-loop has-break-list-μ-loop
+has-break-list-has-break-requires :
+    (t : ℕ) → has-break-list-lts.Need-has-break-requires (has-break-list-calls t) (has-break-list-at t) has-break-list.Post has-break-list-Inv-loop has-break-list-μ-loop
 has-break-list-has-break-requires t c κs =
     let s = c .before .before .before .before .before in
     item (s .pre .1 .0) (c .before .loop .inv) (c .loop-test .taken) _ (s .pre .0)
 
-has-break-list-returns : (t : ℕ) → has-break-list-lts.Need-returns (has-break-list-calls t) (has-break-list-at t) has-break-list.Post has-break-list-Inv-loop has-break-list-μ-loop
+has-break-list-returns :
+    (t : ℕ) → has-break-list-lts.Need-returns (has-break-list-calls t) (has-break-list-at t) has-break-list.Post has-break-list-Inv-loop has-break-list-μ-loop
 has-break-list-returns t c =
     let s = c .before .before .before .before .before .before .before in
     let p = c .before .before in
     found (s .pre .1 .0) (p .before .loop .inv) (p .loop-test .taken) (c .before .has-break .ensures) (c .if1 .taken)
 
-has-break-list-size-requires : (t : ℕ) → has-break-list-lts.Need-size-requires (has-break-list-calls t) (has-break-list-at t) has-break-list.Post has-break-list-Inv-loop has-break-list-μ-loop
+has-break-list-size-requires :
+    (t : ℕ) → has-break-list-lts.Need-size-requires (has-break-list-calls t) (has-break-list-at t) has-break-list.Post has-break-list-Inv-loop has-break-list-μ-loop
 has-break-list-size-requires t c κs = search needs
 
-has-break-list-add-c : (t : ℕ) → has-break-list-lts.Need-add-c (has-break-list-calls t) (has-break-list-at t) has-break-list.Post has-break-list-Inv-loop has-break-list-μ-loop
+has-break-list-add-c :
+    (t : ℕ) → has-break-list-lts.Need-add-c (has-break-list-calls t) (has-break-list-at t) has-break-list.Post has-break-list-Inv-loop has-break-list-μ-loop
 has-break-list-add-c t c =
     let s = c .before .before .before .before .before .before .before .before in
     let p = c .before .before .before in
     let x = s .pre .1 .0 .sized .within (p .before .loop .c) (row (s .pre .1 .0) (p .before .loop .inv) (p .loop-test .taken)) in
     omega (arith, x, s .pre .1 .0 .most-rows, c .size .ensures)
 
-has-break-list-loop-less : (t : ℕ) → has-break-list-lts.Need-loop-less (has-break-list-calls t) (has-break-list-at t) has-break-list.Post has-break-list-Inv-loop has-break-list-μ-loop
+has-break-list-loop-less :
+    (t : ℕ) → has-break-list-lts.Need-loop-less (has-break-list-calls t) (has-break-list-at t) has-break-list.Post has-break-list-Inv-loop has-break-list-μ-loop
 has-break-list-loop-less t c =
     let s = c .before .before .before .before .before .before .before .before in
     let p = c .before .before .before in
     let x = s .pre .1 .0 .sized .some-rows (p .before .loop .c) (row (s .pre .1 .0) (p .before .loop .inv) (p .loop-test .taken)) in
     omega (arith, x, c .size .ensures, p .loop-test .taken)
 
-has-break-list-loop-again : (t : ℕ) → has-break-list-lts.Need-loop-again (has-break-list-calls t) (has-break-list-at t) has-break-list.Post has-break-list-Inv-loop has-break-list-μ-loop
+has-break-list-loop-again :
+    (t : ℕ) → has-break-list-lts.Need-loop-again (has-break-list-calls t) (has-break-list-at t) has-break-list.Post has-break-list-Inv-loop has-break-list-μ-loop
 has-break-list-loop-again t c =
     let s = c .before .before .before .before .before .before .before .before in
     let p = c .before .before .before in
     next (s .pre .1 .0) (p .before .loop .inv) (p .loop-test .taken) (c .before .before .has-break .ensures) (c .before .if1 .left) (c .size .ensures)
 
-has-break-list-returns-2 : (t : ℕ) → has-break-list-lts.Need-returns-2 (has-break-list-calls t) (has-break-list-at t) has-break-list.Post has-break-list-Inv-loop has-break-list-μ-loop
+has-break-list-returns-2 :
+    (t : ℕ) → has-break-list-lts.Need-returns-2 (has-break-list-calls t) (has-break-list-at t) has-break-list.Post has-break-list-Inv-loop has-break-list-μ-loop
 has-break-list-returns-2 t c =
     let s = c .before .before .before .before .before in
     ended (s .pre .1 .0) (c .before .loop .inv) (c .loop-test .left)

@@ -9,40 +9,70 @@ use borrow.Author.Needs.{needs}
 use borrow.Author.Tests.{eq-eqb, ne-eqb}
 use Rattle.rules.specs.Rows.{detail, name}
 use Rattle.rules.specs.Class.{break}
+use Rattle.rules.specs.Names.{sameName}
 use Rattle.rules.specs.Labels.{isClass}
+use Rattle.returns.specs.Search.{leaves}
 use Rattle.returns.proofs.ByWords.{break-detail}
 use Rattle.returns.proofs.Leaving.{own-other, own-plain, own-unnamed, own-named}
 use Rattle.returns.proofs.is_break.Statement.{statement}
 use Rattle.returns.proofs.is_break.Tie as tie
 
--- the row is a break as its detail d says
-is-break : (s : tie.Start) {d : ℕ} (t : Bool) → d ≡ detail (s .args .rows .now) (s .args .row .0) → eqb d 0 ≡ t → isClass (s .args .rows .now) break (s .args .row .0) ≡ t
-is-break s t e f = sym (break-detail _ _ (s .pre .0 .details _ (s .pre .1)) (s .pre .2)) ∙ sym (ap (λ (x : ℕ). eqb x 0) e) ∙ f
+-- with d the row's detail as the code read it, and n its name
+module _ (s : tie.Start) {d : ℕ} (q : d ≡ detail (s .args .rows .now) (s .args .row .0)) where
+  abbrev w : List ℕ
+  w = s .args .rows .now
+
+  abbrev p : List ℕ
+  p = s .args .pairs .now
+
+  abbrev b : List ℕ
+  b = s .args .bytes .now
+
+  abbrev r : ℕ
+  r = s .args .row .0
+
+  abbrev label : ℕ
+  label = s .args .label .0
+
+  abbrev Answer : Bool → Type 0
+  Answer t = t ≡ leaves w p b r label (s .args .implicit) r
+
+  is-break : (t : Bool) → eqb d 0 ≡ t → isClass w break r ≡ t
+  is-break t e = sym (break-detail w r (s .pre .0 .details r (s .pre .1)) (s .pre .2)) ∙ sym (ap (λ (x : ℕ). eqb x 0) q) ∙ e
+
+  other : (d ≡ 0 → ⊥) → Answer false
+  other z = sym (own-other w p b r label (s .args .implicit) (is-break false (ne-eqb d 0 z)))
+
+  module _ (z : d ≡ 0) {n : ℕ} (m : n ≡ name w r) where
+    plain : n ≡ 0 → Answer (s .args .implicit)
+    plain e = sym (own-plain w p b r label (s .args .implicit) (is-break true (eq-eqb d 0 z)) (sym m ∙ e))
+
+    unnamed : (n ≡ 0 → ⊥) → label ≡ 0 → Answer false
+    unnamed e l = sym (own-unnamed w p b r label (s .args .implicit) (is-break true (eq-eqb d 0 z)) (λ o. e (m ∙ o)) l)
+
+    named : (n ≡ 0 → ⊥) → (label ≡ 0 → ⊥) → {t : Bool} → t ≡ sameName p b n label → Answer t
+    named e l f = f ∙ rw m (sym (own-named w p b r label (s .args .implicit) (is-break true (eq-eqb d 0 z)) (λ o. e (m ∙ o)) l))
 
 detail-requires : tie.Need-detail-requires
 detail-requires c κs = search needs
 
 returns : tie.Need-returns
-returns c =
-    let s = c .before .before .before .before .before in
-    sym (own-other _ _ _ _ _ _ (is-break s false (c .before .detail .ensures) (ne-eqb _ _ (c .if1 .taken))))
+returns c = other (c .before .before .before .before .before) (c .before .detail .ensures) (c .if1 .taken)
 
 name-requires : tie.Need-name-requires
 name-requires c κs = search needs
 
 returns-2 : tie.Need-returns-2
 returns-2 c =
-    let p = c .before .before .before in
-    let s = p .before .before .before .before .before in
-    sym (own-plain _ _ _ _ _ _ (is-break s true (p .before .detail .ensures) (eq-eqb _ _ (p .if1 .left))) (sym (c .before .before .name .ensures) ∙ c .if2 .taken))
+    let i = c .before .before .before in
+    plain (i .before .before .before .before .before) (i .before .detail .ensures) (i .if1 .left) (c .before .before .name .ensures) (c .if2 .taken)
 
 returns-3 : tie.Need-returns-3
 returns-3 c =
     let n = c .before .before in
-    let p = n .before .before .before in
-    let s = p .before .before .before .before .before in
-    sym (own-unnamed _ _ _ _ _ _ (is-break s true (p .before .detail .ensures) (eq-eqb _ _ (p .if1 .left)))
-    (λ z. n .if2 .left (n .before .before .name .ensures ∙ z)) (c .if3 .taken))
+    let i = n .before .before .before in
+    unnamed (i .before .before .before .before .before) (i .before .detail .ensures) (i .if1 .left) (n .before .before .name .ensures) (n .if2 .left)
+    (c .if3 .taken)
 
 same-name-requires : tie.Need-same-name-requires
 same-name-requires c κs = search needs
@@ -50,10 +80,9 @@ same-name-requires c κs = search needs
 returns-4 : tie.Need-returns-4
 returns-4 c =
     let n = c .before .before .before in
-    let p = n .before .before .before in
-    let s = p .before .before .before .before .before in
-    c .same-name .ensures ∙ rw (n .before .before .name .ensures) (sym (own-named _ _ _ _ _ _ (is-break s true (p .before .detail .ensures) (eq-eqb _ _ (p .if1 .left)))
-    (λ z. n .if2 .left (n .before .before .name .ensures ∙ z)) (c .before .if3 .left)))
+    let i = n .before .before .before in
+    named (i .before .before .before .before .before) (i .before .detail .ensures) (i .if1 .left) (n .before .before .name .ensures) (n .if2 .left)
+    (c .before .if3 .left) (c .same-name .ensures)
 
 pub is-break-spec : {M : Type 1} → statement M
 is-break-spec = tie.close (tie.spec detail-requires returns name-requires returns-2 returns-3 same-name-requires returns-4)

@@ -1,8 +1,7 @@
 -- Each turn steps over one item. The invariant: the item kept is the last so far that is no Empty, and all rows since are Empty; an Empty is one row.
 -- The measure is what is left of the rows.
 -- Assumes nothing.
-use mathlib.Core.Path.{_≡_, sym, _∙_, ap, subst}
-use mathlib.Core.Bool.{true, false}
+use mathlib.Core.Path.{_≡_, sym, _∙_}
 use mathlib.Core.List.{List}
 use mathlib.Core.Logic.{⊎-elim}
 use Prim.Native.Nat.{ℕ, _+_, _-_, _≤_, _<_}
@@ -14,7 +13,7 @@ use borrow.Author.Tests.{eq-eqb, ne-eqb}
 use Rattle.rules.specs.Rows.{rowCount, kind, size, end, Item, here}
 use Rattle.rules.specs.Class.{empty, class}
 use Rattle.rules.specs.Labels.{isClass}
-use Rattle.rules.specs.Body.{Sized, Detailed}
+use Rattle.rules.specs.Body.{Detailed}
 use Rattle.rules.proofs.Test.{clash}
 use Rattle.rules.proofs.Every.{is-one}
 use Rattle.rules.proofs.Nesting.{item-next}

@@ -1,9 +1,9 @@
--- A refused body is answered with its refusal; a well-formed one has the facts of `Body`, so that the statement rule holds of its row 0, a Block without a label.
+-- A refused body is answered with its refusal. A well-formed one has the facts of `Body`, so the statement rule holds of row 0, a Block without a label.
 -- Assumes nothing.
-use mathlib.Core.Path.{_≡_, refl, sym, _∙_, ap}
+use mathlib.Core.Path.{_≡_, sym, _∙_, ap}
 use mathlib.Core.Bool.{Bool}
 use mathlib.Core.List.{List}
-use mathlib.Core.Option.{none, some}
+use mathlib.Core.Option.{some}
 use Prim.Native.Nat.{ℕ}
 use borrow.Author.Needs.{needs}
 use Rattle.rules.specs.Refusals.{refusal, WellFormed}

@@ -11,16 +11,25 @@ use Rattle.branches.proofs.jumps.break_branches.Statement.{statement}
 use Rattle.branches.proofs.jumps.break_branches.Tie as tie
 
 valid-target-requires : tie.Need-valid-target-requires
-valid-target-requires c κs = (c .before .before .before .before .before .before .before .before .before .before .pre .0, (c .before .before .before .before .before .before .before .before .before .before .pre .1 .0 .block-links, (c .before .before .before .before .before .before .before .before .before .before .pre .1 .1 .0, c .before .before .before .before .before .before .before .before .before .before .pre .1 .1 .1)))
+valid-target-requires c κs =
+    let s = c .before .before .before .before .before .before .before .before .before .before in
+    (s .pre .0, (s .pre .1 .0 .block-links, (s .pre .1 .1 .0, s .pre .1 .1 .1)))
 
 canon-of-requires : tie.Need-canon-of-requires
-canon-of-requires c κs = (c .before .before .before .before .before .before .before .before .before .before .before .before .pre .1 .1 .0, canon-place (c .before .before .before .before .before .before .before .before .before .before .before .before .pre .0) _ (c .before .before .before .before .before .before .before .before .before .before .before .before .pre .1 .1 .0))
+canon-of-requires c κs =
+    let s = c .before .before .before .before .before .before .before .before .before .before .before .before in
+    (s .pre .1 .1 .0, canon-place (s .pre .0) _ (s .pre .1 .1 .0))
 
 mul-bindings : tie.Need-mul-bindings
-mul-bindings c = omega (arith, declared-place (c .before .before .before .before .before .before .before .before .before .before .before .before .before .pre .0) _ _ (c .before .before .before .before .before .before .before .before .before .before .before .before .before .pre .1 .1 .0) (c .canon-of .ensures))
+mul-bindings c =
+    let s = c .before .before .before .before .before .before .before .before .before .before .before .before .before in
+    omega (arith, declared-place (s .pre .0) _ _ (s .pre .1 .1 .0) (c .canon-of .ensures))
 
 shared-slice-read-bindings : tie.Need-shared-slice-read-bindings
-shared-slice-read-bindings c = declared-place (c .before .before .before .before .before .before .before .before .before .before .before .before .before .before .pre .0) _ _ (c .before .before .before .before .before .before .before .before .before .before .before .before .before .before .pre .1 .1 .0) (c .before .canon-of .ensures)
+shared-slice-read-bindings c =
+    let s = c .before .before .before .before .before .before .before .before .before .before .before .before .before .before in
+    let canon-of = c .before .canon-of in
+    declared-place (s .pre .0) _ _ (s .pre .1 .1 .0) (canon-of .ensures)
 
 cast-bindings : tie.Need-cast-bindings
 cast-bindings c = omega (arith, c .shared-slice-known9 .given (c .before .canon-of .result))
@@ -35,29 +44,47 @@ same-length : tie.Need-same-length
 same-length c = search needs
 
 returns : tie.Need-returns
-returns c = break-bound (c .before .before .before .before .before .before .before .before .before .before .before .before .before .before .pre .0) _ _ _ _ _ _ (c .before .before .before .before .before .before .before .before .before .before .before .before .before .before .pre .1 .1 .0) (c .before .before .before .before .before .before .before .before .before .before .before .before .before .before .pre .1 .0) (c .before .before .before .before .before .before .before .before .before .before .before .before .before .before .pre .1 .1 .1) (c .before .before .before .before .before .before .before .before .before .before .before .before .before .before .pre .1 .1 .2) _ _ (c .before .canon-of .ensures) refl (sym (c .before .before .if1 .taken) ∙ c .before .before .before .valid-target .ensures)
+returns c =
+    let s = c .before .before .before .before .before .before .before .before .before .before .before .before .before .before in
+    let canon-of = c .before .canon-of in
+    let if1 = c .before .before .if1 in
+    let valid-target = c .before .before .before .valid-target in
+    break-bound (s .pre .0) _ _ _ _ _ _ (s .pre .1 .1 .0) (s .pre .1 .0) (s .pre .1 .1 .1) (s .pre .1 .1 .2) _ _ (canon-of .ensures) refl (sym (if1 .taken) ∙ valid-target .ensures)
 
 detail-requires : tie.Need-detail-requires
 detail-requires c κs = search needs
 
 add-code : tie.Need-add-code
-add-code c = omega (arith, break-detail (c .before .before .before .before .before .before .before .before .before .before .before .before .before .args .rows .now) _ (c .before .before .before .before .before .before .before .before .before .before .before .before .before .pre .0 .body .details _ (c .before .before .before .before .before .before .before .before .before .before .before .before .before .pre .1 .1 .0)) (c .before .before .before .before .before .before .before .before .before .before .before .before .before .pre .1 .1 .1), c .detail .ensures)
+add-code c =
+    let s = c .before .before .before .before .before .before .before .before .before .before .before .before .before in
+    omega (arith, break-detail (s .args .rows .now) _ (s .pre .0 .body .details _ (s .pre .1 .1 .0)) (s .pre .1 .1 .1), c .detail .ensures)
 
 put-requires : tie.Need-put-requires
-put-requires c κs = (
-  c .before .before .before .before .before .before .before .before .before .before .before .before .before .before .pre .1 .1 .0,
-  break-fits (c .before .before .before .before .before .before .before .before .before .before .before .before .before .before .pre .0) _ _ _ _ _ _ (c .before .before .before .before .before .before .before .before .before .before .before .before .before .before .pre .1 .1 .0) (c .before .before .before .before .before .before .before .before .before .before .before .before .before .before .pre .1 .0) (c .before .before .before .before .before .before .before .before .before .before .before .before .before .before .pre .1 .1 .1) (c .before .before .before .before .before .before .before .before .before .before .before .before .before .before .pre .1 .1 .2) _ (ap (λ (n : ℕ). 4 + n) (c .before .detail .ensures)) (sym (c .before .before .if1 .left) ∙ c .before .before .before .valid-target .ensures),
-)
+put-requires c κs =
+    let s = c .before .before .before .before .before .before .before .before .before .before .before .before .before .before in
+    let detail = c .before .detail in
+    let if1 = c .before .before .if1 in
+    let valid-target = c .before .before .before .valid-target in (
+      s .pre .1 .1 .0,
+      break-fits (s .pre .0) _ _ _ _ _ _ (s .pre .1 .1 .0) (s .pre .1 .0) (s .pre .1 .1 .1) (s .pre .1 .1 .2) _ (ap (λ (n : ℕ). 4 + n) (detail .ensures)) (sym (if1 .left) ∙ valid-target .ensures),
+    )
 
 add-result : tie.Need-add-result
-add-result c = omega (arith, faults-small (c .before .before .before .before .before .before .before .before .before .before .before .before .before .before .before .before .before .pre .0) _ _ _ _ _ _ (c .before .before .before .before .before .before .before .before .before .before .before .before .before .before .before .before .before .pre .1 .1 .0) (c .before .before .before .before .before .before .before .before .before .before .before .before .before .before .before .before .before .pre .1 .0))
+add-result c =
+    let s = c .before .before .before .before .before .before .before .before .before .before .before .before .before .before .before .before .before in
+    omega (arith, faults-small (s .pre .0) _ _ _ _ _ _ (s .pre .1 .1 .0) (s .pre .1 .0))
 
 same-length-2 : tie.Need-same-length-2
 same-length-2 c = search needs
 
 returns-2 : tie.Need-returns-2
 returns-2 c =
-    break-walked (c .before .before .before .before .before .before .before .before .before .before .before .before .before .before .before .before .before .pre .0) _ _ _ _ _ _ (c .before .before .before .before .before .before .before .before .before .before .before .before .before .before .before .before .before .pre .1 .1 .0) (c .before .before .before .before .before .before .before .before .before .before .before .before .before .before .before .before .before .pre .1 .0) (c .before .before .before .before .before .before .before .before .before .before .before .before .before .before .before .before .before .pre .1 .1 .1) (c .before .before .before .before .before .before .before .before .before .before .before .before .before .before .before .before .before .pre .1 .1 .2) _ (ap (λ (n : ℕ). 4 + n) (c .before .before .before .before .detail .ensures)) (sym (c .before .before .before .before .before .if1 .left) ∙ c .before .before .before .before .before .before .valid-target .ensures) _ (c .before .before .put .ensures)
+    let s = c .before .before .before .before .before .before .before .before .before .before .before .before .before .before .before .before .before in
+    let detail = c .before .before .before .before .detail in
+    let if1 = c .before .before .before .before .before .if1 in
+    let valid-target = c .before .before .before .before .before .before .valid-target in
+    let put = c .before .before .put in
+    break-walked (s .pre .0) _ _ _ _ _ _ (s .pre .1 .1 .0) (s .pre .1 .0) (s .pre .1 .1 .1) (s .pre .1 .1 .2) _ (ap (λ (n : ℕ). 4 + n) (detail .ensures)) (sym (if1 .left) ∙ valid-target .ensures) _ (put .ensures)
 
 pub break-branches-spec : {M : Type 1} → statement M
 break-branches-spec =

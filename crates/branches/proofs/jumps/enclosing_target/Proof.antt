@@ -28,10 +28,15 @@ abbrev μ-loop : tie.MeasureT-loop
 μ-loop rows pairs bytes canons declareds lists links c r list₀ list = list
 
 canon-of-requires : tie.Need-canon-of-requires Inv-loop μ-loop
-canon-of-requires c κs = (c .before .before .before .before .before .before .before .pre .1 .1 .0, canon-place (c .before .before .before .before .before .before .before .pre .0) _ (c .before .before .before .before .before .before .before .pre .1 .1 .0))
+canon-of-requires c κs =
+    let s = c .before .before .before .before .before .before .before in
+    (s .pre .1 .1 .0, canon-place (s .pre .0) _ (s .pre .1 .1 .0))
 
 returns : tie.Need-returns Inv-loop μ-loop
-returns c = no-name (c .before .before .before .before .before .before .before .before .before .pre .0) _ _ (c .before .before .before .before .before .before .before .before .before .pre .1 .1 .0) (c .before .canon-of .ensures) (c .if1 .taken)
+returns c =
+    let s = c .before .before .before .before .before .before .before .before .before in
+    let canon-of = c .before .canon-of in
+    no-name (s .pre .0) _ _ (s .pre .1 .1 .0) (canon-of .ensures) (c .if1 .taken)
 
 mul-wide : tie.Need-mul-wide Inv-loop μ-loop
 mul-wide c = omega (arith, c .before .before .before .before .before .before .before .before .before .pre .0 .lists-room)
@@ -43,19 +48,36 @@ wide-requires : tie.Need-wide-requires Inv-loop μ-loop
 wide-requires c κs = search needs
 
 loop-holds : tie.Need-loop-holds Inv-loop μ-loop
-loop-holds c = climb-start (c .before .before .before .before .before .before .before .before .before .before .before .pre .0) _ _ (c .before .before .before .before .before .before .before .before .before .before .before .pre .1 .1 .0) (c .before .before .before .canon-of .ensures) _ (c .wide .ensures)
+loop-holds c =
+    let s = c .before .before .before .before .before .before .before .before .before .before .before in
+    let canon-of = c .before .before .before .canon-of in
+    climb-start (s .pre .0) _ _ (s .pre .1 .1 .0) (canon-of .ensures) _ (c .wide .ensures)
 
 sub-l : tie.Need-sub-l Inv-loop μ-loop
 sub-l c = search needs
 
 kind-requires : tie.Need-kind-requires Inv-loop μ-loop
-kind-requires c κs = climb-in (c .before .before .before .before .before .before .before .before .before .before .before .before .before .pre .0) _ _ (c .before .before .before .before .before .before .before .before .before .before .before .before .before .pre .1 .1 .0) (c .before .before .before .before .before .canon-of .ensures) _ (c .before .loop .inv) (c .loop-test .taken)
+kind-requires c κs =
+    let s = c .before .before .before .before .before .before .before .before .before .before .before .before .before in
+    let canon-of = c .before .before .before .before .before .canon-of in
+    let loop = c .before .loop in
+    climb-in (s .pre .0) _ _ (s .pre .1 .1 .0) (canon-of .ensures) _ (loop .inv) (c .loop-test .taken)
 
 mul-wide-2 : tie.Need-mul-wide-2 Inv-loop μ-loop
-mul-wide-2 c = omega (arith, climb-in (c .before .before .before .before .before .before .before .before .before .before .before .before .before .before .before .pre .0) _ _ (c .before .before .before .before .before .before .before .before .before .before .before .before .before .before .before .pre .1 .1 .0) (c .before .before .before .before .before .before .before .canon-of .ensures) _ (c .before .before .before .loop .inv) (c .before .before .loop-test .taken), c .before .before .before .before .before .before .before .before .before .before .before .before .before .before .before .pre .0 .body .most-rows)
+mul-wide-2 c =
+    let s = c .before .before .before .before .before .before .before .before .before .before .before .before .before .before .before in
+    let canon-of = c .before .before .before .before .before .before .before .canon-of in
+    let loop = c .before .before .before .loop in
+    let loop-test = c .before .before .loop-test in
+    omega (arith, climb-in (s .pre .0) _ _ (s .pre .1 .1 .0) (canon-of .ensures) _ (loop .inv) (loop-test .taken), s .pre .0 .body .most-rows)
 
 shared-slice-read-wide-2 : tie.Need-shared-slice-read-wide-2 Inv-loop μ-loop
-shared-slice-read-wide-2 c = omega (arith, climb-in (c .before .before .before .before .before .before .before .before .before .before .before .before .before .before .before .before .pre .0) _ _ (c .before .before .before .before .before .before .before .before .before .before .before .before .before .before .before .before .pre .1 .1 .0) (c .before .before .before .before .before .before .before .before .canon-of .ensures) _ (c .before .before .before .before .loop .inv) (c .before .before .before .loop-test .taken), c .before .before .before .before .before .before .before .before .before .before .before .before .before .before .before .before .pre .1 .0 .0)
+shared-slice-read-wide-2 c =
+    let s = c .before .before .before .before .before .before .before .before .before .before .before .before .before .before .before .before in
+    let canon-of = c .before .before .before .before .before .before .before .before .canon-of in
+    let loop = c .before .before .before .before .loop in
+    let loop-test = c .before .before .before .loop-test in
+    omega (arith, climb-in (s .pre .0) _ _ (s .pre .1 .1 .0) (canon-of .ensures) _ (loop .inv) (loop-test .taken), s .pre .1 .0 .0)
 
 wide-requires-2 : tie.Need-wide-requires-2 Inv-loop μ-loop
 wide-requires-2 c κs = search needs
@@ -65,42 +87,85 @@ sub-t26 c = search needs
 
 canon-of-requires-2 : tie.Need-canon-of-requires-2 Inv-loop μ-loop
 canon-of-requires-2 c κs =
-    let h = label-in (c .before .before .before .before .before .before .before .before .before .before .before .before .before .before .before .before .before .before .pre .0) _ _ (c .before .before .before .before .before .before .before .before .before .before .before .before .before .before .before .before .before .before .pre .1 .1 .0) (c .before .before .before .before .before .before .before .before .before .before .canon-of .ensures) _ (c .before .before .before .before .before .before .loop .inv) (c .before .before .before .before .before .loop-test .taken) _ (c .before .before .before .before .kind .ensures) (c .before .before .before .if2 .taken) (c .before .before .before .before .before .before .before .before .before .before .before .before .before .before .before .before .before .before .args .links .now) (c .before .before .before .before .before .before .before .before .before .before .before .before .before .before .before .before .before .before .pre .1 .0)
-    _ (c .before .wide2 .ensures) (c .if3 .taken) in
-    (h, canon-place (c .before .before .before .before .before .before .before .before .before .before .before .before .before .before .before .before .before .before .pre .0) _ h)
+    let s = c .before .before .before .before .before .before .before .before .before .before .before .before .before .before .before .before .before .before in
+    let canon-of = c .before .before .before .before .before .before .before .before .before .before .canon-of in
+    let loop = c .before .before .before .before .before .before .loop in
+    let loop-test = c .before .before .before .before .before .loop-test in
+    let kind = c .before .before .before .before .kind in
+    let if2 = c .before .before .before .if2 in
+    let wide2 = c .before .wide2 in
+    let h = label-in (s .pre .0) _ _ (s .pre .1 .1 .0) (canon-of .ensures) _ (loop .inv) (loop-test .taken) _ (kind .ensures) (if2 .taken) (s .args .links .now) (s .pre .1 .0)
+    _ (wide2 .ensures) (c .if3 .taken) in
+    (h, canon-place (s .pre .0) _ h)
 
 returns-2 : tie.Need-returns-2 Inv-loop μ-loop
 returns-2 c =
-    climb-found (c .before .before .before .before .before .before .before .before .before .before .before .before .before .before .before .before .before .before .before .before .pre .0) _ _ (c .before .before .before .before .before .before .before .before .before .before .before .before .before .before .before .before .before .before .before .before .pre .1 .1 .0) (c .before .before .before .before .before .before .before .before .before .before .before .before .canon-of .ensures) _ (c .before .before .before .before .before .before .before .before .loop .inv) (c .before .before .before .before .before .before .before .loop-test .taken) _ (c .before .before .before .before .before .before .kind .ensures) (c .before .before .before .before .before .if2 .taken) (c .before .before .before .before .before .before .before .before .before .before .before .before .before .before .before .before .before .before .before .before .args .links .now) (c .before .before .before .before .before .before .before .before .before .before .before .before .before .before .before .before .before .before .before .before .pre .1 .0) _ (c .before .before .before .wide2 .ensures) (c .before .before .if3 .taken)
-    _ (c .before .canon-of2 .ensures) (c .before .before .before .before .before .before .before .before .before .before .before .if1 .left) (c .if4 .taken)
+    let s = c .before .before .before .before .before .before .before .before .before .before .before .before .before .before .before .before .before .before .before .before in
+    let canon-of = c .before .before .before .before .before .before .before .before .before .before .before .before .canon-of in
+    let loop = c .before .before .before .before .before .before .before .before .loop in
+    let loop-test = c .before .before .before .before .before .before .before .loop-test in
+    let kind = c .before .before .before .before .before .before .kind in
+    let if2 = c .before .before .before .before .before .if2 in
+    let wide2 = c .before .before .before .wide2 in
+    let if3 = c .before .before .if3 in
+    let canon-of2 = c .before .canon-of2 in
+    let if1 = c .before .before .before .before .before .before .before .before .before .before .before .if1 in
+    climb-found (s .pre .0) _ _ (s .pre .1 .1 .0) (canon-of .ensures) _ (loop .inv) (loop-test .taken) _ (kind .ensures) (if2 .taken) (s .args .links .now) (s .pre .1 .0) _ (wide2 .ensures) (if3 .taken)
+    _ (canon-of2 .ensures) (if1 .left) (c .if4 .taken)
 
 mul-wide-3 : tie.Need-mul-wide-3 Inv-loop μ-loop
-mul-wide-3 c = omega (arith, climb-in (c .before .before .before .before .before .before .before .before .before .before .before .before .before .before .before .pre .0) _ _ (c .before .before .before .before .before .before .before .before .before .before .before .before .before .before .before .pre .1 .1 .0) (c .before .before .before .before .before .before .before .canon-of .ensures) _ (c .before .before .before .loop .inv) (c .before .before .loop-test .taken), c .before .before .before .before .before .before .before .before .before .before .before .before .before .before .before .pre .0 .body .most-rows)
+mul-wide-3 c =
+    let s = c .before .before .before .before .before .before .before .before .before .before .before .before .before .before .before in
+    let canon-of = c .before .before .before .before .before .before .before .canon-of in
+    let loop = c .before .before .before .loop in
+    let loop-test = c .before .before .loop-test in
+    omega (arith, climb-in (s .pre .0) _ _ (s .pre .1 .1 .0) (canon-of .ensures) _ (loop .inv) (loop-test .taken), s .pre .0 .body .most-rows)
 
 shared-slice-read-wide-3 : tie.Need-shared-slice-read-wide-3 Inv-loop μ-loop
-shared-slice-read-wide-3 c = omega (arith, climb-in (c .before .before .before .before .before .before .before .before .before .before .before .before .before .before .before .before .pre .0) _ _ (c .before .before .before .before .before .before .before .before .before .before .before .before .before .before .before .before .pre .1 .1 .0) (c .before .before .before .before .before .before .before .before .canon-of .ensures) _ (c .before .before .before .before .loop .inv) (c .before .before .before .loop-test .taken), c .before .before .before .before .before .before .before .before .before .before .before .before .before .before .before .before .pre .0 .lists-room)
+shared-slice-read-wide-3 c =
+    let s = c .before .before .before .before .before .before .before .before .before .before .before .before .before .before .before .before in
+    let canon-of = c .before .before .before .before .before .before .before .before .canon-of in
+    let loop = c .before .before .before .before .loop in
+    let loop-test = c .before .before .before .loop-test in
+    omega (arith, climb-in (s .pre .0) _ _ (s .pre .1 .1 .0) (canon-of .ensures) _ (loop .inv) (loop-test .taken), s .pre .0 .lists-room)
 
 wide-requires-3 : tie.Need-wide-requires-3 Inv-loop μ-loop
 wide-requires-3 c κs = search needs
 
 loop-less : tie.Need-loop-less Inv-loop μ-loop
-loop-less c = climb-less (c .before .before .before .before .before .before .before .before .before .before .before .before .before .before .before .before .before .pre .0) _ _ (c .before .before .before .before .before .before .before .before .before .before .before .before .before .before .before .before .before .pre .1 .1 .0) (c .before .before .before .before .before .before .before .before .before .canon-of .ensures) _ (c .before .before .before .before .before .loop .inv) (c .before .before .before .before .loop-test .taken) _ (c .wide3 .ensures)
+loop-less c =
+    let s = c .before .before .before .before .before .before .before .before .before .before .before .before .before .before .before .before .before in
+    let canon-of = c .before .before .before .before .before .before .before .before .before .canon-of in
+    let loop = c .before .before .before .before .before .loop in
+    let loop-test = c .before .before .before .before .loop-test in
+    climb-less (s .pre .0) _ _ (s .pre .1 .1 .0) (canon-of .ensures) _ (loop .inv) (loop-test .taken) _ (c .wide3 .ensures)
 
 loop-again : tie.Need-loop-again Inv-loop μ-loop
-loop-again c = elim (c .before .before .if2 .came) [
-  | inl x ↦
-      climb-other (c .before .before .before .before .before .before .before .before .before .before .before .before .before .before .before .before .before .pre .0) _ _ (c .before .before .before .before .before .before .before .before .before .before .before .before .before .before .before .before .before .pre .1 .1 .0) (c .before .before .before .before .before .before .before .before .before .canon-of .ensures) _ (c .before .before .before .before .before .loop .inv) (c .before .before .before .before .loop-test .taken) _ (c .before .before .before .kind .ensures) (x .0 .taken) (c .before .before .before .before .before .before .before .before .before .before .before .before .before .before .before .before .before .args .links .now) (c .before .before .before .before .before .before .before .before .before .before .before .before .before .before .before .before .before .pre .1 .0) _ (x .2 .ensures)
-      (x .3 .taken) _ (x .4 .ensures) _ (c .wide3 .ensures) (x .5 .left)
-  | inr y ↦ elim y [
-    | inl x ↦
-        climb-unlabelled (c .before .before .before .before .before .before .before .before .before .before .before .before .before .before .before .before .before .pre .0) _ _ (c .before .before .before .before .before .before .before .before .before .before .before .before .before .before .before .before .before .pre .1 .1 .0) (c .before .before .before .before .before .before .before .before .before .canon-of .ensures) _ (c .before .before .before .before .before .loop .inv) (c .before .before .before .before .loop-test .taken) _ (c .before .before .before .kind .ensures) (x .0 .taken) (c .before .before .before .before .before .before .before .before .before .before .before .before .before .before .before .before .before .args .links .now) (c .before .before .before .before .before .before .before .before .before .before .before .before .before .before .before .before .before .pre .1 .0) _ (x .2 .ensures)
-        _ (c .wide3 .ensures) (x .3 .left)
-    | inr x ↦ climb-plain (c .before .before .before .before .before .before .before .before .before .before .before .before .before .before .before .before .before .pre .0) _ _ (c .before .before .before .before .before .before .before .before .before .before .before .before .before .before .before .before .before .pre .1 .1 .0) (c .before .before .before .before .before .before .before .before .before .canon-of .ensures) _ (c .before .before .before .before .before .loop .inv) (c .before .before .before .before .loop-test .taken) _ _ (c .wide3 .ensures) (c .before .before .before .kind .ensures) (x .left)
-  ]
-]
+loop-again c =
+    let s = c .before .before .before .before .before .before .before .before .before .before .before .before .before .before .before .before .before in
+    let if2 = c .before .before .if2 in
+    let canon-of = c .before .before .before .before .before .before .before .before .before .canon-of in
+    let loop = c .before .before .before .before .before .loop in
+    let loop-test = c .before .before .before .before .loop-test in
+    let kind = c .before .before .before .kind in
+    elim (if2 .came) [
+      | inl x ↦
+          climb-other (s .pre .0) _ _ (s .pre .1 .1 .0) (canon-of .ensures) _ (loop .inv) (loop-test .taken) _ (kind .ensures) (x .0 .taken) (s .args .links .now) (s .pre .1 .0) _ (x .2 .ensures)
+          (x .3 .taken) _ (x .4 .ensures) _ (c .wide3 .ensures) (x .5 .left)
+      | inr y ↦ elim y [
+        | inl x ↦
+            climb-unlabelled (s .pre .0) _ _ (s .pre .1 .1 .0) (canon-of .ensures) _ (loop .inv) (loop-test .taken) _ (kind .ensures) (x .0 .taken) (s .args .links .now) (s .pre .1 .0) _ (x .2 .ensures)
+            _ (c .wide3 .ensures) (x .3 .left)
+        | inr x ↦ climb-plain (s .pre .0) _ _ (s .pre .1 .1 .0) (canon-of .ensures) _ (loop .inv) (loop-test .taken) _ _ (c .wide3 .ensures) (kind .ensures) (x .left)
+      ]
+    ]
 
 returns-3 : tie.Need-returns-3 Inv-loop μ-loop
-returns-3 c = climb-none (c .before .before .before .before .before .before .before .before .before .before .before .before .before .pre .0) _ _ (c .before .before .before .before .before .before .before .before .before .before .before .before .before .pre .1 .1 .0) (c .before .before .before .before .before .canon-of .ensures) _ (c .before .loop .inv) (c .loop-test .left)
+returns-3 c =
+    let s = c .before .before .before .before .before .before .before .before .before .before .before .before .before in
+    let canon-of = c .before .before .before .before .before .canon-of in
+    let loop = c .before .loop in
+    climb-none (s .pre .0) _ _ (s .pre .1 .1 .0) (canon-of .ensures) _ (loop .inv) (c .loop-test .left)
 
 pub enclosing-target-spec : {M : Type 1} → statement M
 enclosing-target-spec =

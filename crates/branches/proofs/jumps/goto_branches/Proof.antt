@@ -11,7 +11,10 @@ goto-target-requires : tie.Need-goto-target-requires
 goto-target-requires c κs = search needs
 
 cast-bindings : tie.Need-cast-bindings
-cast-bindings c = omega (arith, label-small (c .before .before .before .before .before .before .before .before .before .before .before .before .pre .0) _ _ _ _ _ _ (c .before .before .before .before .before .before .before .before .before .before .before .before .pre .1 .1 .0) (c .before .before .before .before .before .before .before .before .before .before .before .before .pre .1 .0) (c .before .before .before .before .before .before .before .before .before .before .before .before .pre .1 .1 .1) _ (c .before .goto-target .ensures))
+cast-bindings c =
+    let s = c .before .before .before .before .before .before .before .before .before .before .before .before in
+    let goto-target = c .before .goto-target in
+    omega (arith, label-small (s .pre .0) _ _ _ _ _ _ (s .pre .1 .1 .0) (s .pre .1 .0) (s .pre .1 .1 .1) _ (goto-target .ensures))
 
 mul-bindings : tie.Need-mul-bindings
 mul-bindings c = search needs
@@ -23,16 +26,36 @@ same-length : tie.Need-same-length
 same-length c = search needs
 
 returns : tie.Need-returns
-returns c = goto-bound (c .before .before .before .before .before .before .before .before .before .before .before .before .pre .0) _ _ _ _ _ _ (c .before .before .before .before .before .before .before .before .before .before .before .before .pre .1 .1 .0) (c .before .before .before .before .before .before .before .before .before .before .before .before .pre .1 .0) (c .before .before .before .before .before .before .before .before .before .before .before .before .pre .1 .1 .1) _ (c .before .goto-target .ensures) (c .if1 .taken)
+returns c =
+    let s = c .before .before .before .before .before .before .before .before .before .before .before .before in
+    let goto-target = c .before .goto-target in
+    goto-bound (s .pre .0) _ _ _ _ _ _ (s .pre .1 .1 .0) (s .pre .1 .0) (s .pre .1 .1 .1) _ (goto-target .ensures) (c .if1 .taken)
 
 canon-of-requires : tie.Need-canon-of-requires
-canon-of-requires c κs = (c .before .before .before .before .before .before .before .before .before .before .before .before .pre .1 .1 .0, canon-place (c .before .before .before .before .before .before .before .before .before .before .before .before .pre .0) _ (c .before .before .before .before .before .before .before .before .before .before .before .before .pre .1 .1 .0))
+canon-of-requires c κs =
+    let s = c .before .before .before .before .before .before .before .before .before .before .before .before in
+    (s .pre .1 .1 .0, canon-place (s .pre .0) _ (s .pre .1 .1 .0))
 
 mul-links : tie.Need-mul-links
-mul-links c = omega (arith, goto-place (c .before .before .before .before .before .before .before .before .before .before .before .before .before .before .pre .0) _ _ _ _ _ _ (c .before .before .before .before .before .before .before .before .before .before .before .before .before .before .pre .1 .1 .0) (c .before .before .before .before .before .before .before .before .before .before .before .before .before .before .pre .1 .0) (c .before .before .before .before .before .before .before .before .before .before .before .before .before .before .pre .1 .1 .1) _ (c .before .before .before .goto-target .ensures) (c .before .before .if1 .left) _ (c .before .canon-of .ensures))
+mul-links c =
+    omega (
+      arith,
+      goto-place (c .before .before .before .before .before .before .before .before .before .before .before .before .before .before .pre .0)
+          _ _ _ _ _ _ (c .before .before .before .before .before .before .before .before .before .before .before .before .before .before .pre .1 .1 .0)
+          (c .before .before .before .before .before .before .before .before .before .before .before .before .before .before .pre .1 .0)
+          (c .before .before .before .before .before .before .before .before .before .before .before .before .before .before .pre .1 .1 .1) _
+          (c .before .before .before .goto-target .ensures)
+          (c .before .before .if1 .left) _
+          (c .before .canon-of .ensures),
+    )
 
 slice-read-links : tie.Need-slice-read-links
-slice-read-links c = goto-place (c .before .before .before .before .before .before .before .before .before .before .before .before .before .before .before .pre .0) _ _ _ _ _ _ (c .before .before .before .before .before .before .before .before .before .before .before .before .before .before .before .pre .1 .1 .0) (c .before .before .before .before .before .before .before .before .before .before .before .before .before .before .before .pre .1 .0) (c .before .before .before .before .before .before .before .before .before .before .before .before .before .before .before .pre .1 .1 .1) _ (c .before .before .before .before .goto-target .ensures) (c .before .before .before .if1 .left) _ (c .before .before .canon-of .ensures)
+slice-read-links c =
+    let s = c .before .before .before .before .before .before .before .before .before .before .before .before .before .before .before in
+    let goto-target = c .before .before .before .before .goto-target in
+    let if1 = c .before .before .before .if1 in
+    let canon-of = c .before .before .canon-of in
+    goto-place (s .pre .0) _ _ _ _ _ _ (s .pre .1 .1 .0) (s .pre .1 .0) (s .pre .1 .1 .1) _ (goto-target .ensures) (if1 .left) _ (canon-of .ensures)
 
 mul-links-2 : tie.Need-mul-links-2
 mul-links-2 c = search needs
@@ -47,10 +70,25 @@ cast-heads : tie.Need-cast-heads
 cast-heads c = search needs
 
 mul-heads : tie.Need-mul-heads
-mul-heads c = omega (arith, goto-place (c .before .before .before .before .before .before .before .before .before .before .before .before .before .before .before .pre .0) _ _ _ _ _ _ (c .before .before .before .before .before .before .before .before .before .before .before .before .before .before .before .pre .1 .1 .0) (c .before .before .before .before .before .before .before .before .before .before .before .before .before .before .before .pre .1 .0) (c .before .before .before .before .before .before .before .before .before .before .before .before .before .before .before .pre .1 .1 .1) _ (c .before .before .before .before .goto-target .ensures) (c .before .before .before .if1 .left) _ (c .before .before .canon-of .ensures))
+mul-heads c =
+    omega (
+      arith,
+      goto-place (c .before .before .before .before .before .before .before .before .before .before .before .before .before .before .before .pre .0)
+          _ _ _ _ _ _ (c .before .before .before .before .before .before .before .before .before .before .before .before .before .before .before .pre .1 .1 .0)
+          (c .before .before .before .before .before .before .before .before .before .before .before .before .before .before .before .pre .1 .0)
+          (c .before .before .before .before .before .before .before .before .before .before .before .before .before .before .before .pre .1 .1 .1) _
+          (c .before .before .before .before .goto-target .ensures)
+          (c .before .before .before .if1 .left) _
+          (c .before .before .canon-of .ensures),
+    )
 
 slice-write-heads : tie.Need-slice-write-heads
-slice-write-heads c = goto-place (c .before .before .before .before .before .before .before .before .before .before .before .before .before .before .before .pre .0) _ _ _ _ _ _ (c .before .before .before .before .before .before .before .before .before .before .before .before .before .before .before .pre .1 .1 .0) (c .before .before .before .before .before .before .before .before .before .before .before .before .before .before .before .pre .1 .0) (c .before .before .before .before .before .before .before .before .before .before .before .before .before .before .before .pre .1 .1 .1) _ (c .before .before .before .before .goto-target .ensures) (c .before .before .before .if1 .left) _ (c .before .before .canon-of .ensures)
+slice-write-heads c =
+    let s = c .before .before .before .before .before .before .before .before .before .before .before .before .before .before .before in
+    let goto-target = c .before .before .before .before .goto-target in
+    let if1 = c .before .before .before .if1 in
+    let canon-of = c .before .before .canon-of in
+    goto-place (s .pre .0) _ _ _ _ _ _ (s .pre .1 .1 .0) (s .pre .1 .0) (s .pre .1 .1 .1) _ (goto-target .ensures) (if1 .left) _ (canon-of .ensures)
 
 same-length-2 : tie.Need-same-length-2
 same-length-2 c = search needs
@@ -59,10 +97,21 @@ same-length-3 : tie.Need-same-length-3
 same-length-3 c = search needs
 
 returns-2 : tie.Need-returns-2
-returns-2 c = goto-pending (c .before .before .before .before .before .before .before .before .before .before .before .before .before .before .before .pre .0) _ _ _ _ _ _ (c .before .before .before .before .before .before .before .before .before .before .before .before .before .before .before .pre .1 .1 .0) (c .before .before .before .before .before .before .before .before .before .before .before .before .before .before .before .pre .1 .0) (c .before .before .before .before .before .before .before .before .before .before .before .before .before .before .before .pre .1 .1 .1) _ (c .before .before .before .before .goto-target .ensures) (c .before .before .before .if1 .left) _ (c .before .before .canon-of .ensures) (c .before .if2 .taken)
+returns-2 c =
+    let s = c .before .before .before .before .before .before .before .before .before .before .before .before .before .before .before in
+    let goto-target = c .before .before .before .before .goto-target in
+    let if1 = c .before .before .before .if1 in
+    let canon-of = c .before .before .canon-of in
+    let if2 = c .before .if2 in
+    goto-pending (s .pre .0) _ _ _ _ _ _ (s .pre .1 .1 .0) (s .pre .1 .0) (s .pre .1 .1 .1) _ (goto-target .ensures) (if1 .left) _ (canon-of .ensures) (if2 .taken)
 
 returns-3 : tie.Need-returns-3
-returns-3 c = goto-blank (c .before .before .before .before .before .before .before .before .before .before .before .before .before .before .pre .0) _ _ _ _ _ _ (c .before .before .before .before .before .before .before .before .before .before .before .before .before .before .pre .1 .1 .0) (c .before .before .before .before .before .before .before .before .before .before .before .before .before .before .pre .1 .0) (c .before .before .before .before .before .before .before .before .before .before .before .before .before .before .pre .1 .1 .1) _ (c .before .before .before .goto-target .ensures) (c .before .before .if1 .left) _ (c .before .canon-of .ensures) (c .if2 .left)
+returns-3 c =
+    let s = c .before .before .before .before .before .before .before .before .before .before .before .before .before .before in
+    let goto-target = c .before .before .before .goto-target in
+    let if1 = c .before .before .if1 in
+    let canon-of = c .before .canon-of in
+    goto-blank (s .pre .0) _ _ _ _ _ _ (s .pre .1 .1 .0) (s .pre .1 .0) (s .pre .1 .1 .1) _ (goto-target .ensures) (if1 .left) _ (canon-of .ensures) (c .if2 .left)
 
 pub goto-branches-spec : {M : Type 1} → statement M
 goto-branches-spec =

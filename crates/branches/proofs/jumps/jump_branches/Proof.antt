@@ -16,35 +16,54 @@ name-requires : tie.Need-name-requires
 name-requires c κs = search needs
 
 returns : tie.Need-returns
-returns c = unlabelled (c .before .before .before .before .before .before .before .before .before .before .before .before .before .pre .0) _ _ _ _ _ _ (c .before .before .before .before .before .before .before .before .before .before .before .before .before .pre .1 .1 .0) (c .before .before .before .before .before .before .before .before .before .before .before .before .before .pre .1 .0) (c .before .before .before .before .before .before .before .before .before .before .before .before .before .pre .1 .1 .1) (sym (c .before .before .name .ensures) ∙ c .if1 .taken)
+returns c =
+    let s = c .before .before .before .before .before .before .before .before .before .before .before .before .before in
+    let name = c .before .before .name in
+    unlabelled (s .pre .0) _ _ _ _ _ _ (s .pre .1 .1 .0) (s .pre .1 .0) (s .pre .1 .1 .1) (sym (name .ensures) ∙ c .if1 .taken)
 
 detail-requires : tie.Need-detail-requires
 detail-requires c κs = search needs
 
 put-requires : tie.Need-put-requires
-put-requires c κs = (
-  c .before .before .before .before .before .before .before .before .before .before .before .before .before .before .before .before .pre .1 .1 .0,
-  fallthrough-fits (c .before .before .before .before .before .before .before .before .before .before .before .before .before .before .before .before .pre .0) _ _ _ _ _ _ (c .before .before .before .before .before .before .before .before .before .before .before .before .before .before .before .before .pre .1 .1 .0) (c .before .before .before .before .before .before .before .before .before .before .before .before .before .before .before .before .pre .1 .0)
-      (detail-fallthrough (c .before .before .before .before .before .before .before .before .before .before .before .before .before .before .before .before .args .rows .now) _ (c .before .before .before .before .before .before .before .before .before .before .before .before .before .before .before .before .pre .0 .body .details _ (c .before .before .before .before .before .before .before .before .before .before .before .before .before .before .before .before .pre .1 .1 .0)) (c .before .before .before .before .before .before .before .before .before .before .before .before .before .before .before .before .pre .1 .1 .1) (sym (c .before .before .detail .ensures) ∙ c .before .if2 .taken)) (λ e. c .before .before .before .if1 .left (c .before .before .before .before .before .name .ensures ∙ e)),
-)
+put-requires c κs =
+    let s = c .before .before .before .before .before .before .before .before .before .before .before .before .before .before .before .before in
+    let detail = c .before .before .detail in
+    let if2 = c .before .if2 in
+    let if1 = c .before .before .before .if1 in
+    let name = c .before .before .before .before .before .name in (
+      s .pre .1 .1 .0,
+      fallthrough-fits (s .pre .0) _ _ _ _ _ _ (s .pre .1 .1 .0) (s .pre .1 .0)
+          (detail-fallthrough (s .args .rows .now) _ (s .pre .0 .body .details _ (s .pre .1 .1 .0)) (s .pre .1 .1 .1) (sym (detail .ensures) ∙ if2 .taken)) (λ e. if1 .left (name .ensures ∙ e)),
+    )
 
 add-result : tie.Need-add-result
-add-result c = omega (arith, faults-small (c .before .before .before .before .before .before .before .before .before .before .before .before .before .before .before .before .before .before .before .pre .0) _ _ _ _ _ _ (c .before .before .before .before .before .before .before .before .before .before .before .before .before .before .before .before .before .before .before .pre .1 .1 .0) (c .before .before .before .before .before .before .before .before .before .before .before .before .before .before .before .before .before .before .before .pre .1 .0))
+add-result c =
+    let s = c .before .before .before .before .before .before .before .before .before .before .before .before .before .before .before .before .before .before .before in
+    omega (arith, faults-small (s .pre .0) _ _ _ _ _ _ (s .pre .1 .1 .0) (s .pre .1 .0))
 
 same-length : tie.Need-same-length
 same-length c = search needs
 
 returns-2 : tie.Need-returns-2
 returns-2 c =
-    fallthrough-walked (c .before .before .before .before .before .before .before .before .before .before .before .before .before .before .before .before .before .before .before .pre .0) _ _ _ _ _ _ (c .before .before .before .before .before .before .before .before .before .before .before .before .before .before .before .before .before .before .before .pre .1 .1 .0) (c .before .before .before .before .before .before .before .before .before .before .before .before .before .before .before .before .before .before .before .pre .1 .0)
-    (detail-fallthrough (c .before .before .before .before .before .before .before .before .before .before .before .before .before .before .before .before .before .before .before .args .rows .now) _ (c .before .before .before .before .before .before .before .before .before .before .before .before .before .before .before .before .before .before .before .pre .0 .body .details _ (c .before .before .before .before .before .before .before .before .before .before .before .before .before .before .before .before .before .before .before .pre .1 .1 .0)) (c .before .before .before .before .before .before .before .before .before .before .before .before .before .before .before .before .before .before .before .pre .1 .1 .1) (sym (c .before .before .before .before .before .detail .ensures) ∙ c .before .before .before .before .if2 .taken)) (λ e. c .before .before .before .before .before .before .if1 .left (c .before .before .before .before .before .before .before .before .name .ensures ∙ e))
-    _ (c .before .before .put .ensures)
+    let s = c .before .before .before .before .before .before .before .before .before .before .before .before .before .before .before .before .before .before .before in
+    let detail = c .before .before .before .before .before .detail in
+    let if2 = c .before .before .before .before .if2 in
+    let if1 = c .before .before .before .before .before .before .if1 in
+    let name = c .before .before .before .before .before .before .before .before .name in
+    let put = c .before .before .put in
+    fallthrough-walked (s .pre .0) _ _ _ _ _ _ (s .pre .1 .1 .0) (s .pre .1 .0)
+    (detail-fallthrough (s .args .rows .now) _ (s .pre .0 .body .details _ (s .pre .1 .1 .0)) (s .pre .1 .1 .1) (sym (detail .ensures) ∙ if2 .taken)) (λ e. if1 .left (name .ensures ∙ e))
+    _ (put .ensures)
 
 goto-branches-requires : tie.Need-goto-branches-requires
-goto-branches-requires c κs = (
-  c .before .before .before .before .before .before .before .before .before .before .before .before .before .before .before .before .before .before .before .before .pre .0,
-  (c .before .before .before .before .before .before .before .before .before .before .before .before .before .before .before .before .before .before .before .before .pre .1 .0, (c .before .before .before .before .before .before .before .before .before .before .before .before .before .before .before .before .before .before .before .before .pre .1 .1 .0, detail-goto (c .before .before .before .before .before .before .before .before .before .before .before .before .before .before .before .before .before .before .before .before .args .rows .now) _ (c .before .before .before .before .before .before .before .before .before .before .before .before .before .before .before .before .before .before .before .before .pre .0 .body .details _ (c .before .before .before .before .before .before .before .before .before .before .before .before .before .before .before .before .before .before .before .before .pre .1 .1 .0)) (c .before .before .before .before .before .before .before .before .before .before .before .before .before .before .before .before .before .before .before .before .pre .1 .1 .1) (sym (c .before .before .before .before .before .before .detail .ensures) ∙ c .before .before .before .before .if3 .taken))),
-)
+goto-branches-requires c κs =
+    let s = c .before .before .before .before .before .before .before .before .before .before .before .before .before .before .before .before .before .before .before .before in
+    let detail = c .before .before .before .before .before .before .detail in
+    let if3 = c .before .before .before .before .if3 in (
+      s .pre .0,
+      (s .pre .1 .0, (s .pre .1 .1 .0, detail-goto (s .args .rows .now) _ (s .pre .0 .body .details _ (s .pre .1 .1 .0)) (s .pre .1 .1 .1) (sym (detail .ensures) ∙ if3 .taken))),
+    )
 
 same-length-2 : tie.Need-same-length-2
 same-length-2 c = search needs
@@ -62,17 +81,23 @@ returns-3 : tie.Need-returns-3
 returns-3 c = search needs
 
 break-branches-requires : tie.Need-break-branches-requires
-break-branches-requires c κs = (
-  c .before .before .before .before .before .before .before .before .before .before .before .before .before .before .before .before .before .before .before .before .pre .0,
-  (
-    c .before .before .before .before .before .before .before .before .before .before .before .before .before .before .before .before .before .before .before .before .pre .1 .0,
-    (
-      c .before .before .before .before .before .before .before .before .before .before .before .before .before .before .before .before .before .before .before .before .pre .1 .1 .0,
-      other-break (c .before .before .before .before .before .before .before .before .before .before .before .before .before .before .before .before .before .before .before .before .args .rows .now) _ (c .before .before .before .before .before .before .before .before .before .before .before .before .before .before .before .before .before .before .before .before .pre .0 .body .details _ (c .before .before .before .before .before .before .before .before .before .before .before .before .before .before .before .before .before .before .before .before .pre .1 .1 .0)) (c .before .before .before .before .before .before .before .before .before .before .before .before .before .before .before .before .before .before .before .before .pre .1 .1 .1) (λ e. c .before .before .before .before .before .if2 .left (c .before .before .before .before .before .before .detail .ensures ∙ e)) (λ e. c .before .before .before .before .if3 .left (c .before .before .before .before .before .before .detail .ensures ∙ e)),
-      some-name _ _ (c .before .before .before .before .before .before .before .before .before .name .ensures) (c .before .before .before .before .before .before .before .if1 .left),
-    ),
-  ),
-)
+break-branches-requires c κs =
+    let s = c .before .before .before .before .before .before .before .before .before .before .before .before .before .before .before .before .before .before .before .before in
+    let if2 = c .before .before .before .before .before .if2 in
+    let detail = c .before .before .before .before .before .before .detail in
+    let if3 = c .before .before .before .before .if3 in
+    let name = c .before .before .before .before .before .before .before .before .before .name in
+    let if1 = c .before .before .before .before .before .before .before .if1 in (
+      s .pre .0,
+      (
+        s .pre .1 .0,
+        (
+          s .pre .1 .1 .0,
+          other-break (s .args .rows .now) _ (s .pre .0 .body .details _ (s .pre .1 .1 .0)) (s .pre .1 .1 .1) (λ e. if2 .left (detail .ensures ∙ e)) (λ e. if3 .left (detail .ensures ∙ e)),
+          some-name _ _ (name .ensures) (if1 .left),
+        ),
+      ),
+    )
 
 same-length-6 : tie.Need-same-length-6
 same-length-6 c = search needs

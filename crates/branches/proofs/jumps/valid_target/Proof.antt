@@ -9,13 +9,21 @@ use Rattle.branches.proofs.jumps.valid_target.Statement.{statement}
 use Rattle.branches.proofs.jumps.valid_target.Tie as tie
 
 enclosing-target-requires : tie.Need-enclosing-target-requires
-enclosing-target-requires c κs = (c .before .before .before .before .before .before .before .pre .0, (c .before .before .before .before .before .before .before .pre .1 .0, (c .before .before .before .before .before .before .before .pre .1 .1 .0, break-branch (class (c .before .before .before .before .before .before .before .args .rows .now) (c .before .before .before .before .before .before .before .args .row .0)) (c .before .before .before .before .before .before .before .pre .1 .1 .1))))
+enclosing-target-requires c κs =
+    let s = c .before .before .before .before .before .before .before in
+    (s .pre .0, (s .pre .1 .0, (s .pre .1 .1 .0, break-branch (class (s .args .rows .now) (s .args .row .0)) (s .pre .1 .1 .1))))
 
 returns : tie.Need-returns
-returns c = no-target (c .before .before .before .before .before .before .before .before .before .pre .0 .body) _ (c .before .before .before .before .before .before .before .before .before .pre .1 .1 .0) _ (c .before .enclosing-target .ensures) (c .if1 .taken)
+returns c =
+    let s = c .before .before .before .before .before .before .before .before .before in
+    let enclosing-target = c .before .enclosing-target in
+    no-target (s .pre .0 .body) _ (s .pre .1 .1 .0) _ (enclosing-target .ensures) (c .if1 .taken)
 
 kind-requires : tie.Need-kind-requires
-kind-requires c κs = target-row (c .before .before .before .before .before .before .before .before .before .pre .0 .body) _ (c .before .before .before .before .before .before .before .before .before .pre .1 .1 .0) _ (c .before .enclosing-target .ensures) (c .if1 .left)
+kind-requires c κs =
+    let s = c .before .before .before .before .before .before .before .before .before in
+    let enclosing-target = c .before .enclosing-target in
+    target-row (s .pre .0 .body) _ (s .pre .1 .1 .0) _ (enclosing-target .ensures) (c .if1 .left)
 
 detail-requires : tie.Need-detail-requires
 detail-requires c κs = search needs
@@ -28,13 +36,25 @@ is-loop-requires c κs = search needs
 
 returns-2 : tie.Need-returns-2
 returns-2 c =
-    valid-break (c .before .before .before .before .before .before .before .before .before .before .before .before .before .pre .0 .body) _ (c .before .before .before .before .before .before .before .before .before .before .before .before .before .pre .1 .1 .0) _ (c .before .before .before .before .before .enclosing-target .ensures) (c .before .before .before .before .if1 .left) _ (c .before .before .before .kind .ensures) _
-    (zero-break (c .before .before .before .before .before .before .before .before .before .before .before .before .before .args .rows .now) _ (c .before .before .before .before .before .before .before .before .before .before .before .before .before .pre .0 .body .details _ (c .before .before .before .before .before .before .before .before .before .before .before .before .before .pre .1 .1 .0)) (c .before .before .before .before .before .before .before .before .before .before .before .before .before .pre .1 .1 .1) (sym (c .before .before .detail .ensures) ∙ c .before .if2 .taken)) (c .is-breakable .ensures)
+    let s = c .before .before .before .before .before .before .before .before .before .before .before .before .before in
+    let enclosing-target = c .before .before .before .before .before .enclosing-target in
+    let if1 = c .before .before .before .before .if1 in
+    let kind = c .before .before .before .kind in
+    let detail = c .before .before .detail in
+    let if2 = c .before .if2 in
+    valid-break (s .pre .0 .body) _ (s .pre .1 .1 .0) _ (enclosing-target .ensures) (if1 .left) _ (kind .ensures) _
+    (zero-break (s .args .rows .now) _ (s .pre .0 .body .details _ (s .pre .1 .1 .0)) (s .pre .1 .1 .1) (sym (detail .ensures) ∙ if2 .taken)) (c .is-breakable .ensures)
 
 returns-3 : tie.Need-returns-3
 returns-3 c =
-    valid-continue (c .before .before .before .before .before .before .before .before .before .before .before .before .before .pre .0 .body) _ (c .before .before .before .before .before .before .before .before .before .before .before .before .before .pre .1 .1 .0) _ (c .before .before .before .before .before .enclosing-target .ensures) (c .before .before .before .before .if1 .left) _ (c .before .before .before .kind .ensures) _
-    (not-zero-continue (c .before .before .before .before .before .before .before .before .before .before .before .before .before .args .rows .now) _ (c .before .before .before .before .before .before .before .before .before .before .before .before .before .pre .0 .body .details _ (c .before .before .before .before .before .before .before .before .before .before .before .before .before .pre .1 .1 .0)) (c .before .before .before .before .before .before .before .before .before .before .before .before .before .pre .1 .1 .1) (λ e. c .before .if2 .left (c .before .before .detail .ensures ∙ e))) (c .is-loop .ensures)
+    let s = c .before .before .before .before .before .before .before .before .before .before .before .before .before in
+    let enclosing-target = c .before .before .before .before .before .enclosing-target in
+    let if1 = c .before .before .before .before .if1 in
+    let kind = c .before .before .before .kind in
+    let if2 = c .before .if2 in
+    let detail = c .before .before .detail in
+    valid-continue (s .pre .0 .body) _ (s .pre .1 .1 .0) _ (enclosing-target .ensures) (if1 .left) _ (kind .ensures) _
+    (not-zero-continue (s .args .rows .now) _ (s .pre .0 .body .details _ (s .pre .1 .1 .0)) (s .pre .1 .1 .1) (λ e. if2 .left (detail .ensures ∙ e))) (c .is-loop .ensures)
 
 pub valid-target-spec : {M : Type 1} → statement M
 valid-target-spec =
