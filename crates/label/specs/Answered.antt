@@ -1,0 +1,42 @@
+-- What the label call lends to the walk, and what the walk leaves: the sheet and the bindings from the start on, and the words past them as they were.
+-- Assumes nothing.
+use mathlib.Core.Path.{_≡_}
+use mathlib.Core.List.{List}
+use Prim.Native.Nat.{ℕ, _*_, _≤_, _<_}
+use lib.ListN.{length, getD, take, drop}
+use Rattle.rules.specs.Rows.{rowCount, name}
+use Rattle.rules.specs.Names.{pairCount}
+use Rattle.rules.specs.Labels.{sheet as sheetOf, bindings as bindingsOf}
+use Rattle.label.specs.Rest.{Reported}
+
+-- no row has a name
+abbrev pub NoName : List ℕ → Type 0
+NoName w = (r : ℕ) → r < rowCount w → name w r ≡ 0
+
+-- the first n words are 0, and those past them as they were
+pub record Cleared (n : ℕ) (t t′ : List ℕ) : Type 0 where
+  pub cleared-length : length t′ ≡ length t
+  pub zeros : (g : ℕ) → g < n → getD t′ g 0 ≡ 0
+  pub kept : drop n t′ ≡ drop n t
+
+-- room for each table, and 0 where the walk starts from 0
+pub record Lent (w p canons declareds lists sheet bindings heads links used : List ℕ) : Type 0 where
+  pub canons-room : pairCount p < length canons
+  pub declareds-room : pairCount p < length declareds
+  pub lists-room : rowCount w ≤ length lists
+  pub sheet-room : rowCount w * 8 ≤ length sheet
+  pub bindings-room : rowCount w ≤ length bindings
+  pub heads-room : pairCount p < length heads
+  pub links-room : rowCount w ≤ length links
+  pub used-room : pairCount p < length used
+  pub declareds-zero : (c : ℕ) → getD declareds c 0 ≡ 0
+  pub bindings-zero : (g : ℕ) → g < rowCount w → getD bindings g 0 ≡ 0
+  pub heads-zero : (c : ℕ) → getD heads c 0 ≡ 0
+  pub used-zero : (c : ℕ) → getD used c 0 ≡ 0
+
+-- the sheet's row count, and both written
+pub record Answered (w p b : List ℕ) (n : ℕ) (s t s′ t′ : List ℕ) : Type 0 where
+  pub on-sheet : Reported n (sheetOf w p b 0) s s′
+  pub bindings-length : length t′ ≡ length t
+  pub bound : take (rowCount w) t′ ≡ bindingsOf w p b 0
+  pub bindings-kept : drop (rowCount w) t′ ≡ drop (rowCount w) t

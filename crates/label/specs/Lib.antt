@@ -1,0 +1,4 @@
+pub mod Given
+pub mod Left
+pub mod Rest
+pub mod Answered

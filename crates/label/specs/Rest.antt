@@ -1,0 +1,49 @@
+-- What the walk hands on to the end of the sheet, and the context that goes down the walk.
+-- Assumes nothing.
+use mathlib.Core.Path.{_≡_}
+use mathlib.Core.Bool.{Bool, true, false, _||_, not}
+use mathlib.Core.List.{List, _++_}
+use mathlib.Core.Option.{some}
+use Prim.Native.Nat.{ℕ, _*_, _≤_, _<_}
+use lib.Dec.{eqb}
+use lib.ListN.{length, getD, take, drop}
+use Rattle.rules.specs.Rows.{rowCount, end}
+use Rattle.rules.specs.Class.{isCase, isComm, class}
+use Rattle.rules.specs.Names.{pairCount}
+use Rattle.rules.specs.Scope.{listOf}
+use Rattle.rules.specs.Labels.{Fault, each, unresolved, used, declaredAt, word}
+use Rattle.rules.specs.Calls.{faultWords}
+use Rattle.branches.specs.Walk.{faultsAt, bindingsAt, latestIn, InContext}
+
+-- the first rows of a sheet are these faults, n of them, and the words past them are as they were
+pub record Reported (n : ℕ) (faults : List Fault) (sheet sheet′ : List ℕ) : Type 0 where
+  pub count : n ≡ length faults
+  pub reported : take (n * 4) sheet′ ≡ faultWords faults
+  pub sheet-length : length sheet′ ≡ length sheet
+  pub sheet-kept : drop (n * 4) sheet′ ≡ drop (n * 4) sheet
+
+module _ (w p b : List ℕ) where
+  -- the sheet up to the gotos that are pending at the end
+  unfoldable pub faultsLeft : List Fault
+  faultsLeft = faultsAt w p b (rowCount w) ++ each (unresolved w p b 0) (rowCount w)
+
+  -- the end of the walk
+  pub record AtEnd (faults : ℕ) (sheet bindings : List ℕ) : Type 0 where
+    pub count : faults ≡ length (faultsAt w p b (rowCount w))
+    pub sheet-room : rowCount w * 8 ≤ length sheet
+    pub reported : take (faults * 4) sheet ≡ faultWords (faultsAt w p b (rowCount w))
+    pub bindings-room : rowCount w ≤ length bindings
+    pub bound : take (rowCount w) bindings ≡ bindingsAt w p b (rowCount w)
+
+  -- which declared labels are used, by canonical number
+  pub record UsedTable (useds : List ℕ) : Type 0 where
+    pub room : pairCount p < length useds
+    pub at-canon : (c d : ℕ) → 0 < c → c ≤ pairCount p → declaredAt w p b 0 c ≡ some d → eqb (getD useds c 0) 0 ≡ not (used w p b 0 d)
+
+  -- a row that is no clause comes with its context
+  abbrev pub HasContext : ℕ → ℕ → ℕ → Type 0
+  HasContext x latest label = (isCase (class w x) || isComm (class w x)) ≡ false → (l : ℕ) × InContext w p b l x latest label
+
+  -- and hands on the latest declaration of its list
+  abbrev pub Latest : ℕ → ℕ → Type 0
+  Latest x latest = (isCase (class w x) || isComm (class w x)) ≡ false → (l : ℕ) → listOf w 0 x ≡ some l → latest ≡ word (latestIn w p b l (end w x))

@@ -1,0 +1,131 @@
+// What is left at the end of the walk: gotos without a label, and labels that nothing used.
+ghost use mathlib.Core.Path.{_≡_};
+ghost use Prim.Native.Nat.{ℕ, suc, _*_, _≤_, _<_};
+ghost use lib.ListN.{length, getD};
+ghost use Rattle.rules.specs.Rows.{rowCount, kind};
+ghost use Rattle.rules.specs.Names.{pairCount};
+ghost use Rattle.rules.specs.Body.{Body};
+ghost use Rattle.rules.specs.Labels.{sheet as sheetOf};
+ghost use Rattle.tables.specs.Canon.{CanonTable, DeclaredTable};
+ghost use Rattle.branches.specs.Walk.{bindingAt};
+ghost use Rattle.label.specs.Left.{Left, LeftOver};
+ghost use Rattle.label.specs.Rest.{Reported, AtEnd, UsedTable, faultsLeft};
+use branches::sheet;
+use rows::RowNumber;
+
+fn wide(number: u16) -> usize
+    ensures { λ r. ⌜ r ≡ number ⌝ }
+{
+    number as usize
+}
+
+// Marks the declared label of the branch as used, or reports a goto that is still pending: 7 if its
+// name is declared, which counts as use, else 8.
+fn unresolved_at(
+    rows: &[u32],
+    pairs: &[u32],
+    bytes: &[u8],
+    canons: &[u32],
+    declareds: &[u16],
+    sheet: &mut [u32],
+    bound: u32,
+    used: &mut [u8],
+    row: RowNumber,
+    faults: usize,
+) -> usize
+    requires { ⌜ Body (now rows) (now pairs) (now bytes) × CanonTable (now pairs) (now bytes) (now canons) × DeclaredTable (now rows) (now pairs) (now bytes) (now declareds) ⌝ }
+    requires { ⌜ (row .0 < rowCount (now rows)) × (kind (now rows) (row .0) ≡ 11) × (bound ≡ bindingAt (now rows) (now pairs) (now bytes) (rowCount (now rows)) (row .0)) ⌝ }
+    requires { ⌜ Left (now rows) (now pairs) (now bytes) (row .0) faults (now sheet) (now used) ⌝ }
+    ensures { λ r. ⌜ LeftOver (now (rows .entry)) (now (pairs .entry)) (now (bytes .entry)) (suc (row .0)) r (now (sheet .entry)) (now (sheet .exit)) (now (used .exit)) ⌝ }
+{
+    let c = tables::canon_of(rows, canons, row);
+    if bound != 0 {
+        if bound == declareds[c] as u32 {
+            used[c] = 1;
+        }
+        return faults;
+    }
+    if rows::detail(rows, row) != 2 {
+        return faults;
+    }
+    if c != 0 {
+        if declareds[c] != 0 {
+            used[c] = 1;
+            sheet::put(rows, sheet, faults, 7, row, 0);
+            return faults + 1;
+        }
+    }
+    sheet::put(rows, sheet, faults, 8, row, 0);
+    faults + 1
+}
+
+// 7 and 8 in row order, and which declared labels are used, by canonical number.
+pub fn unresolved(
+    rows: &[u32],
+    pairs: &[u32],
+    bytes: &[u8],
+    canons: &[u32],
+    declareds: &[u16],
+    sheet: &mut [u32],
+    bindings: &[u32],
+    used: &mut [u8],
+    faults: usize,
+) -> usize
+    requires { ⌜ Body (now rows) (now pairs) (now bytes) × CanonTable (now pairs) (now bytes) (now canons) × DeclaredTable (now rows) (now pairs) (now bytes) (now declareds) ⌝ }
+    requires { ⌜ AtEnd (now rows) (now pairs) (now bytes) faults (now sheet) (now bindings) × (pairCount (now pairs) < length (now used)) × ((c : ℕ) → getD (now used) c 0 ≡ 0) ⌝ }
+    ensures sheet { λ r. ⌜ Reported r (faultsLeft (now (rows .entry)) (now (pairs .entry)) (now (bytes .entry))) (now (sheet .entry)) (now (sheet .exit)) ⌝ }
+    ensures used { λ _. ⌜ UsedTable (now (rows .entry)) (now (pairs .entry)) (now (bytes .entry)) (now (used .exit)) ⌝ }
+{
+    let count = rows.len() / 5;
+    let mut at = faults;
+    let mut r = 0;
+    while r < count {
+        let row = RowNumber(r);
+        if rows::kind(rows, row) == 11 {
+            at = unresolved_at(
+                rows,
+                pairs,
+                bytes,
+                canons,
+                declareds,
+                sheet,
+                bindings[r],
+                used,
+                row,
+                at,
+            );
+        }
+        r += 1;
+    }
+    at
+}
+
+// 9 for each declared label that nothing used, by canonical number.
+pub fn unused(
+    rows: &[u32],
+    pairs: &[u32],
+    bytes: &[u8],
+    declareds: &[u16],
+    used: &[u8],
+    sheet: &mut [u32],
+    faults: usize,
+) -> usize
+    requires { ⌜ Body (now rows) (now pairs) (now bytes) × DeclaredTable (now rows) (now pairs) (now bytes) (now declareds) × UsedTable (now rows) (now pairs) (now bytes) (now used) ⌝ }
+    requires { ⌜ Reported faults (faultsLeft (now rows) (now pairs) (now bytes)) (now sheet) (now sheet) × (rowCount (now rows) * 8 ≤ length (now sheet)) ⌝ }
+    ensures { λ r. ⌜ Reported r (sheetOf (now (rows .entry)) (now (pairs .entry)) (now (bytes .entry)) 0) (now (sheet .entry)) (now (sheet .exit)) ⌝ }
+{
+    let count = pairs.len() / 2;
+    let mut at = faults;
+    let mut c = 1;
+    while c <= count {
+        let declared = wide(declareds[c]);
+        if declared != 0 {
+            if used[c] == 0 {
+                sheet::put(rows, sheet, at, 9, RowNumber(declared - 1), 0);
+                at += 1;
+            }
+        }
+        c += 1;
+    }
+    at
+}
