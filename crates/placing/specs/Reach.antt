@@ -6,7 +6,7 @@ use mathlib.Core.List.{List}
 use mathlib.Core.Logic.{_⊎_}
 use Prim.Native.Nat.{ℕ, _≤_, _<_}
 use lib.ListN.{length}
-use Rattle.rules.specs.Rows.{rowCount, end}
+use Rattle.rules.specs.Rows.{rowCount, kind, detail, name, end}
 use Rattle.rules.specs.Class.{Class, class}
 use Rattle.rules.specs.Body.{Body}
 use Rattle.lists.specs.Listed.{Listed}
@@ -20,6 +20,18 @@ pub record FormedLists (w l : List ℕ) : Type 0 where
   pub formed : Formed w
   pub listed : Listed w l
   pub enough : rowCount w ≤ length l
+
+-- row r is an unlabelled fallthrough
+abbrev pub Falls : List ℕ → ℕ → Type 0
+Falls w r = (kind w r ≡ 11) × (detail w r ≡ 3) × (name w r ≡ 0)
+
+-- no row is
+abbrev pub NoFallthrough : List ℕ → Type 0
+NoFallthrough w = (r : ℕ) → r < rowCount w → Falls w r → ⊥
+
+-- where one is, each row's list is known
+abbrev pub ListsAtFallthrough : List ℕ → List ℕ → Type 0
+ListsAtFallthrough w l = (r : ℕ) → r < rowCount w → Falls w r → FormedLists w l
 
 -- of the rows before r that pass, the last ends at e, which is 0 where none does
 pub record Reach (w : List ℕ) (P : Class → Bool) (r e : ℕ) : Type 0 where

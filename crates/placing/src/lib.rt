@@ -4,17 +4,17 @@ use body::Refusal;
 use names::Found;
 use rows::RowNumber;
 ghost use mathlib.Core.Path.{_≡_};
-ghost use mathlib.Core.Bool.{true};
+ghost use mathlib.Core.Bool.{true, false};
 ghost use Prim.Native.Nat.{_≤_, _<_};
-ghost use Rattle.rules.specs.Rows.{rowCount, kind};
+ghost use Rattle.rules.specs.Rows.{rowCount, kind, name};
 ghost use Rattle.rules.specs.Class.{isBreakable, isLoop, isStatement, class};
 ghost use Rattle.rules.specs.Body.{Detailed};
 ghost use Rattle.rules.specs.Scope.{onlyEmpty};
 ghost use Rattle.rules.specs.Placing.{endsCase, wellPlaced, badlyPlaced, placing};
-ghost use Rattle.rules.specs.Calls.{answered, placingCall};
+ghost use Rattle.rules.specs.Calls.{placingCall};
 ghost use Rattle.names.specs.Place.{place};
 ghost use Rattle.placing.specs.Given.{given};
-ghost use Rattle.placing.specs.Reach.{Formed, FormedLists, Reach, Later};
+ghost use Rattle.placing.specs.Reach.{Formed, FormedLists, Falls, NoFallthrough, ListsAtFallthrough, Reach, Later};
 
 pub enum Placing {
     Refused(Refusal),
@@ -81,8 +81,8 @@ fn well_placed(
     break_end: usize,
     loop_end: usize,
 ) -> bool
-    requires { ⌜ FormedLists (now rows) (now lists) ⌝ }
-    requires { ⌜ (row .0 < rowCount (now rows)) × (kind (now rows) (row .0) ≡ 11) ⌝ }
+    requires { ⌜ Formed (now rows) × ListsAtFallthrough (now rows) (now lists) ⌝ }
+    requires { ⌜ (row .0 < rowCount (now rows)) × (kind (now rows) (row .0) ≡ 11) × (name (now rows) (row .0) ≡ 0) ⌝ }
     requires { ⌜ Reach (now rows) isBreakable (row .0) «break_end» × Reach (now rows) isLoop (row .0) «loop_end» ⌝ }
     ensures { λ r. ⌜ r ≡ wellPlaced (now (rows .entry)) 0 (row .0) ⌝ }
 {
@@ -103,7 +103,7 @@ fn badly_placed(
     break_end: usize,
     loop_end: usize,
 ) -> bool
-    requires { ⌜ FormedLists (now rows) (now lists) ⌝ }
+    requires { ⌜ Formed (now rows) × ListsAtFallthrough (now rows) (now lists) ⌝ }
     requires { ⌜ row .0 < rowCount (now rows) ⌝ }
     requires { ⌜ Reach (now rows) isBreakable (row .0) «break_end» × Reach (now rows) isLoop (row .0) «loop_end» ⌝ }
     ensures { λ r. ⌜ r ≡ badlyPlaced (now (rows .entry)) 0 (row .0) ⌝ }
@@ -130,9 +130,9 @@ fn later_end(so_far: usize, counts: bool, end: usize) -> usize
     so_far
 }
 
-// The first row badly placed.
-pub fn first_badly_placed(rows: &[u32], lists: &[u16]) -> Found
-    requires { ⌜ FormedLists (now rows) (now lists) ⌝ }
+// The first row badly placed. The lists are read at an unlabelled fallthrough alone.
+fn first_badly_placed(rows: &[u32], lists: &[u16]) -> Found
+    requires { ⌜ Formed (now rows) × ListsAtFallthrough (now rows) (now lists) ⌝ }
     ensures { λ r. ⌜ place r ≡ placing (now (rows .entry)) 0 ⌝ }
 {
     let count = rows.len() / 5;
@@ -153,24 +153,61 @@ pub fn first_badly_placed(rows: &[u32], lists: &[u16]) -> Found
     Found::Nowhere
 }
 
+// Whether some row is an unlabelled fallthrough.
+fn has_fallthrough(rows: &[u32]) -> bool
+    ensures { λ r. ⌜ (r ≡ false → NoFallthrough (now (rows .entry))) ⌝ }
+{
+    let count = rows.len() / 5;
+    let mut k = 0;
+    while k < count {
+        if is_fallthrough(rows, RowNumber(k)) {
+            return true;
+        }
+        k += 1;
+    }
+    false
+}
+
+// Whether the row is an unlabelled fallthrough.
+fn is_fallthrough(rows: &[u32], row: RowNumber) -> bool
+    requires { ⌜ row .0 < rowCount (now rows) ⌝ }
+    ensures { λ r. ⌜ (r ≡ false → Falls (now (rows .entry)) (row .0) → ⊥) ⌝ }
+{
+    if rows::kind(rows, row) != 11 {
+        return false;
+    }
+    if rows::detail(rows, row) != 3 {
+        return false;
+    }
+    rows::name_word(rows, row) == 0
+}
+
+// The first row badly placed of a well-formed body. Few bodies have a fallthrough, and the others
+// need no lists.
+pub fn placed(rows: &[u32]) -> Found
+    requires { ⌜ Formed (now rows) ⌝ }
+    ensures { λ r. ⌜ place r ≡ placing (now (rows .entry)) 0 ⌝ }
+{
+    if !has_fallthrough(rows) {
+        let none = [0u16; 1];
+        return first_badly_placed(rows, &none);
+    }
+    let mut lists = [0u16; 2000];
+    lists::lists_of(rows, &mut lists);
+    first_badly_placed(rows, &lists)
+}
+
 // The first row badly placed of a well-formed body, or Well; else the refusal.
 pub fn placing_of(rows: &[u32], pairs: &[u32], bytes: &[u8]) -> Placing
     ensures { λ r. ⌜ given r ≡ placingCall (now (rows .entry)) (now (pairs .entry)) (now (bytes .entry)) ⌝ }
 {
     match body::refusal_of(rows, pairs, bytes) {
         Checked::Refused(r) => Placing::Refused(r),
-        Checked::WellFormed => placed(rows),
-    }
-}
-
-fn placed(rows: &[u32]) -> Placing
-    requires { ⌜ Formed (now rows) ⌝ }
-    ensures { λ r. ⌜ given r ≡ answered (placing (now (rows .entry)) 0) ⌝ }
-{
-    let mut lists = [0u16; 2000];
-    lists::lists_of(rows, &mut lists);
-    match first_badly_placed(rows, &lists) {
-        Found::At(r) => Placing::Bad(RowNumber(r)),
-        Found::Nowhere => Placing::Well,
+        Checked::WellFormed => {
+            match placed(rows) {
+                Found::At(r) => Placing::Bad(RowNumber(r)),
+                Found::Nowhere => Placing::Well,
+            }
+        }
     }
 }

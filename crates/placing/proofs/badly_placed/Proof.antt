@@ -14,7 +14,7 @@ returns : tie.Need-returns
 returns c =
     let k = c .before in
     let s = k .before .before .before in
-    other-not-bad _ _ _ (k .kind .ensures) (s .pre .0 .formed .2 .details (s .args .row .0) (s .pre .1 .0)) (c .if1 .taken)
+    other-not-bad _ _ _ (k .kind .ensures) (s .pre .0 .0 .2 .details (s .args .row .0) (s .pre .1 .0)) (c .if1 .taken)
 
 name-requires : tie.Need-name-requires
 name-requires c κs = search needs
@@ -26,7 +26,7 @@ well-placed-requires : tie.Need-well-placed-requires
 well-placed-requires c κs =
     let k = c .before .before .before .before in
     let s = k .before .before .before in
-    (s .pre .0, ((s .pre .1 .0, sym (k .kind .ensures) ∙ c .before .before .before .if1 .left), s .pre .1 .1))
+    (s .pre .0, ((s .pre .1 .0, sym (k .kind .ensures) ∙ c .before .before .before .if1 .left, sym (c .before .before .name .ensures) ∙ c .if2 .left), s .pre .1 .1))
 
 returns-3 : tie.Need-returns-3
 returns-3 c = ap not (c .well-placed .ensures) ∙ not-well-bad _ _ _ (c .before .before .before .name .ensures) (c .before .if2 .left)

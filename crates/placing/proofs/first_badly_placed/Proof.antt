@@ -24,7 +24,7 @@ abbrev μ-loop : tie.MeasureT-loop
 
 -- row 0 holds all rows
 whole : (s : tie.Start Inv-loop μ-loop) → end (s .args .rows .now) 0 ≡ rowCount (s .args .rows .now)
-whole s = omega (arith, s .pre .formed .2 .root-size)
+whole s = omega (arith, s .pre .0 .2 .root-size)
 
 loop-holds : tie.Need-loop-holds Inv-loop μ-loop
 loop-holds c = (below-none _, reach-none _ isBreakable, reach-none _ isLoop)
@@ -52,7 +52,7 @@ size-requires c κs = c .before .before .before .loop-test .taken
 add-end : tie.Need-add-end Inv-loop μ-loop
 add-end c =
     let l = c .before .before .before .before .before in
-    omega (arith, c .size .ensures, l .before .before .before .pre .formed .2 .sized .within (l .loop .r) (c .before .before .before .before .loop-test .taken))
+    omega (arith, c .size .ensures, l .before .before .before .pre .0 .2 .sized .within (l .loop .r) (c .before .before .before .before .loop-test .taken))
 
 is-breakable-requires : tie.Need-is-breakable-requires Inv-loop μ-loop
 is-breakable-requires c κs = tt
@@ -81,7 +81,7 @@ loop-again c =
     let l = t .before in
     let s = l .before .before .before in
     let v = l .loop .inv in
-    let a = s .pre .formed .2 .details (l .loop .r) (t .loop-test .taken) in
+    let a = s .pre .0 .2 .details (l .loop .r) (t .loop-test .taken) in
     let e = ap (λ (n : ℕ). l .loop .r + n) (z .size .ensures) in (
       below-more _ _ (v .0) (sym (k .before .before .badly-placed .ensures) ∙ k .before .if1 .left),
       reach-more _ isBreakable _ _ _ _ _ (by-words isBreakable _ _ _ _ (own-breakable _ (l .loop .r)) (k .kind .ensures) a (b .is-breakable .ensures)) e (v .1)

@@ -1,6 +1,6 @@
 -- The detail says which branch it is: a break or continue is inside what it needs where a row of that kind before it reaches past it.
 -- Assumes nothing.
-use mathlib.Core.Path.{_≡_, _∙_}
+use mathlib.Core.Path.{_≡_, sym, _∙_}
 use mathlib.Core.Bool.{true}
 use Rattle.rules.specs.Rows.{kind, detail}
 use Rattle.rules.specs.Class.{isBreakable, isLoop, detailAllowed}
@@ -12,7 +12,7 @@ use Rattle.placing.proofs.well_placed.Tie as tie
 
 -- the row's detail is allowed
 allowed : (s : tie.Start) → detailAllowed (kind (s .args .rows .now) (s .args .row .0)) (detail (s .args .rows .now) (s .args .row .0)) ≡ true
-allowed s = s .pre .0 .formed .2 .details (s .args .row .0) (s .pre .1 .0 .0)
+allowed s = s .pre .0 .0 .2 .details (s .args .row .0) (s .pre .1 .0 .0)
 
 detail-requires : tie.Need-detail-requires
 detail-requires c κs = search needs
@@ -20,7 +20,10 @@ detail-requires c κs = search needs
 ends-case-requires : tie.Need-ends-case-requires
 ends-case-requires c κs =
     let s = c .before .before .before .before in
-    (s .pre .0, (s .pre .1 .0 .0, statement-fallthrough _ _ _ (allowed s) (s .pre .1 .0 .1) (c .before .detail .ensures) (c .match .keys3)))
+    let three = sym (c .before .detail .ensures) ∙ c .match .keys3 in (
+      s .pre .0 .1 _ (s .pre .1 .0 .0) (s .pre .1 .0 .1, three, s .pre .1 .0 .2),
+      (s .pre .1 .0 .0, statement-fallthrough _ _ _ (allowed s) (s .pre .1 .0 .1) (c .before .detail .ensures) (c .match .keys3)),
+    )
 
 returns : tie.Need-returns
 returns c =
