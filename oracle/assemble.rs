@@ -1,0 +1,32 @@
+//! Build code shared by the packages here: where goscript's files are, and
+//! the modules that name them.
+
+use std::path::{Path, PathBuf};
+use std::{env, fs};
+
+/// goscript's folder: `GOSCRIPT_SRC`, taken from the root of the repository.
+pub fn source() -> PathBuf {
+    println!("cargo:rerun-if-env-changed=GOSCRIPT_SRC");
+    let given = env::var("GOSCRIPT_SRC").unwrap_or("../shared/docs/src".to_string());
+    let package = PathBuf::from(env::var("CARGO_MANIFEST_DIR").unwrap());
+    let folder = package.join("../..").join(given);
+    folder.canonicalize().unwrap_or_else(|e| panic!("GOSCRIPT_SRC: {}: {e}", folder.display()))
+}
+
+/// The folder for files made by the build.
+pub fn out() -> PathBuf {
+    PathBuf::from(env::var("OUT_DIR").unwrap())
+}
+
+/// Writes a file that declares each of goscript's files as a module.
+pub fn write_modules(file: &str, paths: &[PathBuf]) {
+    let text: String = paths.iter().map(|path| module(path)).collect();
+    fs::write(out().join(file), text).unwrap();
+}
+
+fn module(path: &Path) -> String {
+    println!("cargo:rerun-if-changed={}", path.display());
+    assert!(path.is_file(), "{} is missing", path.display());
+    let name = path.file_stem().unwrap().to_str().unwrap();
+    format!("#[path = {:?}]\npub mod {name};\n", path)
+}

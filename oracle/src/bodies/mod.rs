@@ -1,0 +1,19 @@
+//! Bodies to try, and ways to spoil and to shrink them.
+
+mod damage;
+mod every;
+mod limits;
+mod names;
+mod people;
+mod random;
+mod rng;
+pub mod rows;
+mod smallest;
+
+pub use damage::damage;
+pub use every::every;
+pub use limits::at_limits;
+pub use people::people;
+pub use random::{random, Shape};
+pub use rng::Rng;
+pub use smallest::smallest;
