@@ -15,6 +15,7 @@ ghost use Prim.Native.Nat.{ℕ, _+_, _*_, _≤_, _<_};
 ghost use lib.ListN.{length};
 ghost use Rattle.rules.specs.Rows.{rowCount, end};
 ghost use Rattle.rules.specs.Class.{declaration, labeled, if, ifElse, oneOf, isCase, isComm, detailAllowed, classOf, class};
+ghost use Rattle.rules.specs.Refusals.{WellFormed};
 ghost use Rattle.rules.specs.Body.{Body};
 ghost use Rattle.rules.specs.Scope.{isBlock, holdsItems};
 ghost use Rattle.rules.specs.Labels.{isClass, word};
@@ -65,10 +66,10 @@ fn clear(bindings: &mut [u32], count: usize)
     requires { ⌜ count ≤ length (now bindings) ⌝ }
     ensures { λ _. ⌜ Cleared count (now (bindings .entry)) (now (bindings .exit)) ⌝ }
 {
-    let mut r = 0;
-    while r < count {
-        bindings[r] = 0;
-        r += 1;
+    let mut k = 0;
+    while k < count {
+        bindings[k] = 0;
+        k += 1;
     }
 }
 
@@ -513,8 +514,31 @@ fn faults(
     )
 }
 
+// The sheet and the bindings of a well-formed body; 7 where there is no room for them, with both as
+// they were lent. Words past them stay.
+pub fn labels_of(
+    rows: &[u32],
+    pairs: &[u32],
+    bytes: &[u8],
+    sheet: &mut [u32],
+    bindings: &mut [u32],
+) -> LabelAnswer
+    requires { ⌜ WellFormed (now rows) (now pairs) (now bytes) ⌝ }
+    ensures answer { λ r. ⌜ given r ≡ labelCall (now (rows .entry)) (now (pairs .entry)) (now (bytes .entry)) (now (sheet .entry)) (now (bindings .entry)) .answer ⌝ }
+    ensures sheet { λ _. ⌜ now (sheet .exit) ≡ labelCall (now (rows .entry)) (now (pairs .entry)) (now (bytes .entry)) (now (sheet .entry)) (now (bindings .entry)) .sheet-words ⌝ }
+    ensures bindings { λ _. ⌜ now (bindings .exit) ≡ labelCall (now (rows .entry)) (now (pairs .entry)) (now (bytes .entry)) (now (sheet .entry)) (now (bindings .entry)) .binding-words ⌝ }
+{
+    let count = rows.len() / 5;
+    if sheet.len() < count * 8 {
+        return LabelAnswer::TooShort;
+    }
+    if bindings.len() < count {
+        return LabelAnswer::TooShort;
+    }
+    LabelAnswer::Faults(faults(rows, pairs, bytes, sheet, bindings))
+}
+
 // The sheet and the bindings of a well-formed body; else the refusal, with both as they were lent.
-// Words past them stay.
 pub fn labels(
     rows: &[u32],
     pairs: &[u32],
@@ -528,15 +552,6 @@ pub fn labels(
 {
     match body::refusal_of(rows, pairs, bytes) {
         Checked::Refused(r) => LabelAnswer::Refused(r),
-        Checked::WellFormed => {
-            let count = rows.len() / 5;
-            if sheet.len() < count * 8 {
-                return LabelAnswer::TooShort;
-            }
-            if bindings.len() < count {
-                return LabelAnswer::TooShort;
-            }
-            LabelAnswer::Faults(faults(rows, pairs, bytes, sheet, bindings))
-        }
+        Checked::WellFormed => labels_of(rows, pairs, bytes, sheet, bindings),
     }
 }

@@ -1,4 +1,4 @@
--- The loop's invariant: the words before r are 0, those from `count` on as they were lent. The measure is the words that are left.
+-- The loop's invariant: the words before k are 0, those from `count` on as they were lent. The measure is the words that are left.
 -- Assumes nothing.
 use mathlib.Core.Path.{_≡_, refl}
 use Prim.Native.Nat.{ℕ, _-_, _≤_, _<_}
@@ -10,11 +10,11 @@ use Rattle.label.proofs.clear.Statement.{statement}
 use Rattle.label.proofs.clear.Tie as tie
 
 abbrev Inv-loop : tie.InvT-loop
-Inv-loop bindings₀ count r₀ bindings r =
-    (r ≤ count) × (length bindings ≡ length bindings₀) × ((g : ℕ) → g < r → getD bindings g 0 ≡ 0) × (drop count bindings ≡ drop count bindings₀)
+Inv-loop bindings₀ count k₀ bindings k =
+    (k ≤ count) × (length bindings ≡ length bindings₀) × ((g : ℕ) → g < k → getD bindings g 0 ≡ 0) × (drop count bindings ≡ drop count bindings₀)
 
 abbrev μ-loop : tie.MeasureT-loop
-μ-loop bindings₀ count r₀ bindings r = count - r
+μ-loop bindings₀ count k₀ bindings k = count - k
 
 loop-holds : tie.Need-loop-holds Inv-loop μ-loop
 loop-holds c = (omega arith, refl, λ g h. absurd (omega arith), refl)
@@ -25,8 +25,8 @@ mul-bindings c = search needs
 slice-write-bindings : tie.Need-slice-write-bindings Inv-loop μ-loop
 slice-write-bindings c = search needs
 
-add-r : tie.Need-add-r Inv-loop μ-loop
-add-r c = search needs
+add-k : tie.Need-add-k Inv-loop μ-loop
+add-k c = search needs
 
 loop-less : tie.Need-loop-less Inv-loop μ-loop
 loop-less c = omega arith
@@ -34,7 +34,7 @@ loop-less c = omega arith
 loop-again : tie.Need-loop-again Inv-loop μ-loop
 loop-again c =
     let l = c .before .loop in
-    cleared-more (l .r) _ _ (l .bindings) (c .loop-test .taken) (c .before .before .pre) (l .inv .1) (l .inv .2) (l .inv .3)
+    cleared-more (l .k) _ _ (l .bindings) (c .loop-test .taken) (c .before .before .pre) (l .inv .1) (l .inv .2) (l .inv .3)
 
 same-length : tie.Need-same-length Inv-loop μ-loop
 same-length c = search needs
@@ -53,7 +53,7 @@ clear-spec =
     loop-holds
     mul-bindings
     slice-write-bindings
-    add-r
+    add-k
     loop-less
     loop-again
     same-length

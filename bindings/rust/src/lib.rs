@@ -1,0 +1,110 @@
+//! The marks of a Go function body: label faults (the sheet), where labels bind, whether unlabelled
+//! branches are well placed, and whether the body is terminating (the verdict).
+//!
+//! Each function answers on any words: a body that isn't well-formed gets a [`Refusal`], and then no
+//! lent buffer is changed. The calls themselves are proved; here they are only made safe to name.
+//!
+//! ```
+//! // {goto M;L:for{}}
+//! let rows = [[12, 0, 1, 0, 5], [11, 2, 7, 1, 1], [3, 0, 9, 2, 3], [19, 0, 11, 0, 2], [12, 0, 14, 0, 1]];
+//! let body = zesthull::Body { rows: rows.as_flattened(), pairs: &[0, 1, 1, 1], bytes: b"ML" };
+//! let (mut sheet, mut bindings) = ([0; 40], [0; 5]);
+//! let marks = zesthull::marks(body, &mut sheet, &mut bindings).unwrap();
+//! assert_eq!(marks.faults, 2);
+//! assert_eq!(sheet[..8], [8, 7, 1, 0, 9, 9, 2, 0]);
+//! assert_eq!(bindings, [0, 0, 3, 0, 0]);
+//! assert_eq!((marks.badly_placed, marks.terminating), (None, true));
+//! ```
+
+mod calls;
+
+use std::fmt;
+
+/// The words of a body: five a row (kind, detail, position, name, size), two a name (offset, length),
+/// and the name bytes.
+#[derive(Clone, Copy, Debug)]
+pub struct Body<'a> {
+    pub rows: &'a [u32],
+    pub pairs: &'a [u32],
+    pub bytes: &'a [u8],
+}
+
+/// Why there is no answer: document 01's number and index.
+#[derive(Clone, Copy, Debug, PartialEq, Eq)]
+pub struct Refusal {
+    pub number: u32,
+    pub index: usize,
+}
+
+impl fmt::Display for Refusal {
+    fn fmt(&self, f: &mut fmt::Formatter) -> fmt::Result {
+        let index = self.index;
+        match self.number {
+            1 => write!(f, "row words empty, not a multiple of 5, or over 2,000 rows"),
+            2 => write!(f, "odd pair words, over 500 pairs, or over 8,000 name bytes"),
+            3 => write!(f, "pair {index} is empty, starts before the previous end or ends past the bytes"),
+            4 => write!(f, "row {index} has a kind, detail, position or name that isn't allowed"),
+            5 => write!(f, "row {index} breaks the shape of its kind"),
+            6 => write!(f, "row {index} is over 100 deep"),
+            _ => write!(f, "sheet shorter than 8 words a row, or bindings shorter than 1 word a row"),
+        }
+    }
+}
+
+impl std::error::Error for Refusal {}
+
+/// The marks of a body beside its sheet and its bindings.
+#[derive(Clone, Copy, Debug, PartialEq, Eq)]
+pub struct Marks {
+    /// The sheet's row count.
+    pub faults: usize,
+    /// The first row badly placed.
+    pub badly_placed: Option<usize>,
+    /// The verdict.
+    pub terminating: bool,
+}
+
+/// Whether the body is well-formed.
+pub fn refusal(body: Body) -> Result<(), Refusal> {
+    told(|value| calls::refusal(body, value)).map(|_| ())
+}
+
+/// The label call. It writes the sheet (code, position, name, other) and the bindings (one word a
+/// row), and answers the sheet's row count.
+pub fn labels(body: Body, sheet: &mut [u32], bindings: &mut [u32]) -> Result<usize, Refusal> {
+    told(|value| calls::labels(body, sheet, bindings, value))
+}
+
+/// The placing call: the first row badly placed.
+pub fn placing(body: Body) -> Result<Option<usize>, Refusal> {
+    told(|value| calls::placing(body, value)).map(|value| value.checked_sub(1))
+}
+
+/// The verdict call: whether the body is terminating.
+pub fn verdict(body: Body) -> Result<bool, Refusal> {
+    told(|value| calls::verdict(body, value)).map(|value| value == 1)
+}
+
+/// The label, placing and verdict calls in one, after one look for refusals.
+pub fn marks(body: Body, sheet: &mut [u32], bindings: &mut [u32]) -> Result<Marks, Refusal> {
+    let (mut placing, mut verdict) = (0, 0);
+    let count = told(|value| calls::marks(body, sheet, bindings, value, &mut placing, &mut verdict))?;
+    Ok(Marks { faults: count, badly_placed: placing.checked_sub(1), terminating: verdict == 1 })
+}
+
+/// The bytes of a name, as a part of the caller's own; an empty part for number 0, for a number past
+/// the last pair, and for pairs or bytes that are refused.
+pub fn name<'b>(pairs: &[u32], bytes: &'b [u8], number: usize) -> &'b [u8] {
+    let mut offset = 0;
+    let length = calls::name(pairs, bytes, number, &mut offset);
+    &bytes[offset..offset + length]
+}
+
+/// The value that a call writes where it refuses nothing; else the refusal.
+fn told(call: impl FnOnce(&mut usize) -> u32) -> Result<usize, Refusal> {
+    let mut value = 0;
+    match call(&mut value) {
+        0 => Ok(value),
+        number => Err(Refusal { number, index: value }),
+    }
+}

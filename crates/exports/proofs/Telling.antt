@@ -1,0 +1,90 @@
+-- What a call answers is told as two numbers: equal answers are told alike. A row badly placed is one of the body's rows, so that 1 more fits a word.
+-- Assumes nothing.
+use mathlib.Core.Path.{_≡_, refl, sym, _∙_, ap}
+use mathlib.Core.Bool.{Bool, true}
+use mathlib.Core.List.{List, []}
+use mathlib.Core.Option.{Option, none, some}
+use Prim.Native.Nat.{ℕ, _+_, _-_, _≤_, _<_}
+use native.Mathlib.Omega.{arith}
+use lib.ListN.{length, take, drop}
+use Rattle.rules.specs.Rows.{end}
+use Rattle.rules.specs.Names.{pairCount, offset, len, namesOk, nameBytes}
+use Rattle.rules.specs.Refusals.{refusal}
+use Rattle.rules.specs.Placing.{badlyPlaced, placing}
+use Rattle.rules.specs.Calls.{Answer, refused, answered, labelCall, placingCall, verdictCall}
+use Rattle.rules.proofs.Facts.{body}
+use Rattle.rules.proofs.Pairs.{name-part, ok-pair}
+use Rattle.rules.proofs.Scan.{lowest-found}
+use Rattle.rules.proofs.Test.{clash}
+use Rattle.marking.specs.Marks.{together, marksCall}
+use Rattle.exports.specs.Told.{placedWord, toldMarks}
+
+pub tells : {A : Type 0} (told : A → ℕ × ℕ) {o call : A} {n v : ℕ} → n ≡ told o .0 → v ≡ told o .1 → o ≡ call → (n ≡ told call .0) × (v ≡ told call .1)
+tells told f g e = (f ∙ ap (λ x. told x .0) e, g ∙ ap (λ x. told x .1) e)
+
+-- ---- the row badly placed
+abbrev isAnswered : Answer (Option ℕ) → ℕ
+isAnswered (refused n i) = 0
+isAnswered (answered a) = 1
+
+abbrev value : Answer (Option ℕ) → Option ℕ
+value (refused n i) = none
+value (answered o) = o
+
+placed-row : (w p b : List ℕ) (r : ℕ) (o : Option (ℕ × ℕ)) → refusal w p b ≡ o → answered (some r) ≡ placingCall w p b → r < 2000
+unfolding placingCall placing
+placed-row w p b r (some x) e f =
+    let g : answered (some r) ≡ refused (x .0) (x .1) = f ∙ rw (e, placingCall) in
+    absurd (clash (sym (ap isAnswered g)))
+placed-row w p b r none e f =
+    let g : answered (some r) ≡ answered (placing w 0) = f ∙ rw (e, placingCall) in
+    let h = lowest-found (badlyPlaced w 0) (end w 0) r (sym (ap value g)) in
+    omega (arith, h .0, body w p b e .root-size, body w p b e .most-rows)
+
+pub small-row : (w p b : List ℕ) (r : ℕ) → answered (some r) ≡ placingCall w p b → r < 2000
+small-row w p b r = placed-row w p b r (refusal w p b) refl
+
+pub small-word : (w p b : List ℕ) (o : Option ℕ) → answered o ≡ placingCall w p b → placedWord o ≤ 2000
+small-word w p b none e = omega arith
+small-word w p b (some r) e = omega (arith, small-row w p b r e)
+
+-- ---- the marks
+pub tells-marks : (x y : ℕ) {o call : Answer (ℕ × Option ℕ × Bool)} {n v p t : ℕ} → n ≡ toldMarks x y o .0 → v ≡ toldMarks x y o .1 → p ≡ toldMarks x y o .2
+    → t ≡ toldMarks x y o .3 → o ≡ call
+    → (n ≡ toldMarks x y call .0) × (v ≡ toldMarks x y call .1) × (p ≡ toldMarks x y call .2) × (t ≡ toldMarks x y call .3)
+tells-marks x y f g h i e = (
+  f ∙ ap (λ a. toldMarks x y a .0) e,
+  g ∙ ap (λ a. toldMarks x y a .1) e,
+  h ∙ ap (λ a. toldMarks x y a .2) e,
+  i ∙ ap (λ a. toldMarks x y a .3) e,
+)
+
+-- an answer of the three together has that of the placing call in it
+abbrev second : Answer (ℕ × Option ℕ × Bool) → Answer (Option ℕ)
+second (refused n i) = refused n i
+second (answered m) = answered (m .1)
+
+abbrev isWhole : Answer (ℕ × Option ℕ × Bool) → ℕ
+isWhole (refused n i) = 0
+isWhole (answered m) = 1
+
+together-second : (a : Answer ℕ) (x : Answer (Option ℕ)) (y : Answer Bool) (m : ℕ × Option ℕ × Bool) → answered m ≡ together a x y → answered (m .1) ≡ x
+together-second (refused n i) x y m e = absurd (clash (sym (ap isWhole e)))
+together-second (answered c) (refused n i) y m e = absurd (clash (sym (ap isWhole e)))
+together-second (answered c) (answered o) (refused n i) m e = absurd (clash (sym (ap isWhole e)))
+together-second (answered c) (answered o) (answered v) m e = ap second e
+
+pub marks-small : (w p b s t : List ℕ) (m : ℕ × Option ℕ × Bool) → answered m ≡ marksCall w p b s t → placedWord (m .1) ≤ 2000
+unfolding marksCall
+marks-small w p b s t m e = small-word w p b (m .1) (together-second (labelCall w p b s t .answer) (placingCall w p b) (verdictCall w p b) m e)
+
+-- ---- a name's part
+pub no-part : (b : List ℕ) {part : List ℕ} → part ≡ [] → (take 0 (drop 0 b) ≡ part) × (0 + 0 ≤ length b)
+no-part b e = (sym e, omega arith)
+
+pub name-told : (p b : List ℕ) (n x y : ℕ) → namesOk p b ≡ true → (n ≡ 0 → ⊥) → n ≤ pairCount p → x ≡ offset p (n - 1) → y ≡ len p (n - 1)
+    → (take y (drop x b) ≡ nameBytes p b n) × (x + y ≤ length b)
+name-told p b n x y ok z h e f = (
+  rw (e, f) (sym (name-part p b n ok (omega arith) h)),
+  omega (arith, ok-pair p b ok (n - 1) (omega arith) .within),
+)

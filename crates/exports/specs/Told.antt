@@ -1,0 +1,38 @@
+-- An answer as a program in C or Rust gets it: the refusal's number, 0 for none, and the refusal's index or the value.
+-- Assumes nothing.
+use mathlib.Core.Bool.{Bool, true, false}
+use mathlib.Core.Option.{Option, none, some}
+use Prim.Native.Nat.{ℕ, suc}
+use Rattle.rules.specs.Calls.{Answer, refused, answered}
+
+abbrev pub toldRefusal : Option (ℕ × ℕ) → ℕ × ℕ
+toldRefusal none = (0, 0)
+toldRefusal (some r) = r
+
+-- the sheet's row count
+abbrev pub toldCount : Answer ℕ → ℕ × ℕ
+toldCount (refused n i) = (n, i)
+toldCount (answered count) = (0, count)
+
+-- 1 + the first row badly placed, or 0
+abbrev pub placedWord : Option ℕ → ℕ
+placedWord none = 0
+placedWord (some r) = suc r
+
+abbrev pub toldPlacing : Answer (Option ℕ) → ℕ × ℕ
+toldPlacing (refused n i) = (n, i)
+toldPlacing (answered o) = (0, placedWord o)
+
+-- 1 for yes, 0 for no
+abbrev pub verdictWord : Bool → ℕ
+verdictWord true = 1
+verdictWord false = 0
+
+abbrev pub toldVerdict : Answer Bool → ℕ × ℕ
+toldVerdict (refused n i) = (n, i)
+toldVerdict (answered v) = (0, verdictWord v)
+
+-- the marks: beside number and value, the words of placing and verdict, which a refusal leaves as they were
+abbrev pub toldMarks : ℕ → ℕ → Answer (ℕ × Option ℕ × Bool) → ℕ × ℕ × ℕ × ℕ
+toldMarks placing verdict (refused n i) = (n, i, placing, verdict)
+toldMarks placing verdict (answered m) = (0, m .0, placedWord (m .1), verdictWord (m .2))

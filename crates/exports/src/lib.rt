@@ -1,0 +1,216 @@
+// The calls for programs in C and Rust: bindings/c/zesthull.h declares them. A slice is a pointer and
+// a count. Each call returns the number of the refusal, 0 for none, and writes the refusal's index or
+// the answer through `value`. A refusal changes nothing else.
+use body::Checked;
+use label::LabelAnswer;
+use marking::Marking;
+use marking::index_of;
+use marking::number_of;
+use names::Found;
+use placing::Placing;
+use returns::Verdict;
+ghost use mathlib.Core.Path.{_≡_};
+ghost use Prim.Native.Nat.{_+_, _≤_};
+ghost use lib.ListN.{length, take, drop};
+ghost use Rattle.rules.specs.Names.{nameBytes};
+ghost use Rattle.rules.specs.Refusals.{refusal};
+ghost use Rattle.rules.specs.Calls.{placingCall, verdictCall, labelCall};
+ghost use Rattle.names.specs.Place.{place};
+ghost use Rattle.marking.specs.Marks.{marksCall};
+ghost use Rattle.exports.specs.Told.{toldRefusal, toldCount, placedWord, toldPlacing, verdictWord, toldVerdict, toldMarks};
+
+fn wide(word: u32) -> usize
+    ensures { λ r. ⌜ r ≡ word ⌝ }
+{
+    word as usize
+}
+
+// The refusal of the body.
+#[no_mangle]
+pub extern "C" fn zesthull_refusal(
+    rows: &[u32],
+    pairs: &[u32],
+    bytes: &[u8],
+    value: &mut usize,
+) -> u32
+    ensures number { λ r. ⌜ r ≡ toldRefusal (refusal (now (rows .entry)) (now (pairs .entry)) (now (bytes .entry))) .0 ⌝ }
+    ensures value { λ _. ⌜ now (value .exit) ≡ toldRefusal (refusal (now (rows .entry)) (now (pairs .entry)) (now (bytes .entry))) .1 ⌝ }
+{
+    match body::refusal_of(rows, pairs, bytes) {
+        Checked::Refused(r) => {
+            *value = index_of(r);
+            number_of(r)
+        }
+        Checked::WellFormed => {
+            *value = 0;
+            0
+        }
+    }
+}
+
+// The label call. The value is the sheet's row count.
+#[no_mangle]
+pub extern "C" fn zesthull_labels(
+    rows: &[u32],
+    pairs: &[u32],
+    bytes: &[u8],
+    sheet: &mut [u32],
+    bindings: &mut [u32],
+    value: &mut usize,
+) -> u32
+    ensures number { λ r. ⌜ r ≡ toldCount (labelCall (now (rows .entry)) (now (pairs .entry)) (now (bytes .entry)) (now (sheet .entry)) (now (bindings .entry)) .answer) .0 ⌝ }
+    ensures value { λ _. ⌜ now (value .exit) ≡ toldCount (labelCall (now (rows .entry)) (now (pairs .entry)) (now (bytes .entry)) (now (sheet .entry)) (now (bindings .entry)) .answer) .1 ⌝ }
+    ensures sheet { λ _. ⌜ now (sheet .exit) ≡ labelCall (now (rows .entry)) (now (pairs .entry)) (now (bytes .entry)) (now (sheet .entry)) (now (bindings .entry)) .sheet-words ⌝ }
+    ensures bindings { λ _. ⌜ now (bindings .exit) ≡ labelCall (now (rows .entry)) (now (pairs .entry)) (now (bytes .entry)) (now (sheet .entry)) (now (bindings .entry)) .binding-words ⌝ }
+{
+    match label::labels(rows, pairs, bytes, sheet, bindings) {
+        LabelAnswer::Refused(r) => {
+            *value = index_of(r);
+            number_of(r)
+        }
+        LabelAnswer::TooShort => {
+            *value = 0;
+            7
+        }
+        LabelAnswer::Faults(n) => {
+            *value = n;
+            0
+        }
+    }
+}
+
+// The placing call. The value is 1 + the first row badly placed, or 0.
+#[no_mangle]
+pub extern "C" fn zesthull_placing(
+    rows: &[u32],
+    pairs: &[u32],
+    bytes: &[u8],
+    value: &mut usize,
+) -> u32
+    ensures number { λ r. ⌜ r ≡ toldPlacing (placingCall (now (rows .entry)) (now (pairs .entry)) (now (bytes .entry))) .0 ⌝ }
+    ensures value { λ _. ⌜ now (value .exit) ≡ toldPlacing (placingCall (now (rows .entry)) (now (pairs .entry)) (now (bytes .entry))) .1 ⌝ }
+{
+    match placing::placing_of(rows, pairs, bytes) {
+        Placing::Refused(r) => {
+            *value = index_of(r);
+            number_of(r)
+        }
+        Placing::Bad(row) => {
+            *value = row.0 + 1;
+            0
+        }
+        Placing::Well => {
+            *value = 0;
+            0
+        }
+    }
+}
+
+// The verdict call. The value is 1 for yes and 0 for no.
+#[no_mangle]
+pub extern "C" fn zesthull_verdict(
+    rows: &[u32],
+    pairs: &[u32],
+    bytes: &[u8],
+    value: &mut usize,
+) -> u32
+    ensures number { λ r. ⌜ r ≡ toldVerdict (verdictCall (now (rows .entry)) (now (pairs .entry)) (now (bytes .entry))) .0 ⌝ }
+    ensures value { λ _. ⌜ now (value .exit) ≡ toldVerdict (verdictCall (now (rows .entry)) (now (pairs .entry)) (now (bytes .entry))) .1 ⌝ }
+{
+    match returns::verdict_of(rows, pairs, bytes) {
+        Verdict::Refused(r) => {
+            *value = index_of(r);
+            number_of(r)
+        }
+        Verdict::Yes => {
+            *value = 1;
+            0
+        }
+        Verdict::No => {
+            *value = 0;
+            0
+        }
+    }
+}
+
+fn placed_word(placed: Found) -> usize
+    requires { ⌜ placedWord (place placed) ≤ 2000 ⌝ }
+    ensures { λ r. ⌜ r ≡ placedWord (place placed) ⌝ }
+{
+    match placed {
+        Found::At(row) => row + 1,
+        Found::Nowhere => 0,
+    }
+}
+
+fn verdict_word(terminating: bool) -> usize
+    ensures { λ r. ⌜ r ≡ verdictWord terminating ⌝ }
+{
+    if terminating { 1 } else { 0 }
+}
+
+// The label, placing and verdict calls in one, after one look for refusals. The value is the sheet's
+// row count.
+#[no_mangle]
+pub extern "C" fn zesthull_marks(
+    rows: &[u32],
+    pairs: &[u32],
+    bytes: &[u8],
+    sheet: &mut [u32],
+    bindings: &mut [u32],
+    value: &mut usize,
+    placing: &mut usize,
+    verdict: &mut usize,
+) -> u32
+    ensures number { λ r. ⌜ r ≡ toldMarks (now (placing .entry)) (now (verdict .entry)) (marksCall (now (rows .entry)) (now (pairs .entry)) (now (bytes .entry)) (now (sheet .entry)) (now (bindings .entry))) .0 ⌝ }
+    ensures value { λ _. ⌜ now (value .exit) ≡ toldMarks (now (placing .entry)) (now (verdict .entry)) (marksCall (now (rows .entry)) (now (pairs .entry)) (now (bytes .entry)) (now (sheet .entry)) (now (bindings .entry))) .1 ⌝ }
+    ensures placing { λ _. ⌜ now (placing .exit) ≡ toldMarks (now (placing .entry)) (now (verdict .entry)) (marksCall (now (rows .entry)) (now (pairs .entry)) (now (bytes .entry)) (now (sheet .entry)) (now (bindings .entry))) .2 ⌝ }
+    ensures verdict { λ _. ⌜ now (verdict .exit) ≡ toldMarks (now (placing .entry)) (now (verdict .entry)) (marksCall (now (rows .entry)) (now (pairs .entry)) (now (bytes .entry)) (now (sheet .entry)) (now (bindings .entry))) .3 ⌝ }
+    ensures sheet { λ _. ⌜ now (sheet .exit) ≡ labelCall (now (rows .entry)) (now (pairs .entry)) (now (bytes .entry)) (now (sheet .entry)) (now (bindings .entry)) .sheet-words ⌝ }
+    ensures bindings { λ _. ⌜ now (bindings .exit) ≡ labelCall (now (rows .entry)) (now (pairs .entry)) (now (bytes .entry)) (now (sheet .entry)) (now (bindings .entry)) .binding-words ⌝ }
+{
+    match marking::mark(rows, pairs, bytes, sheet, bindings) {
+        Marking::Refused(r) => {
+            *value = index_of(r);
+            number_of(r)
+        }
+        Marking::TooShort => {
+            *value = 0;
+            7
+        }
+        Marking::Marked(m) => {
+            let placed = m.placed;
+            *value = m.faults;
+            *placing = placed_word(placed);
+            *verdict = verdict_word(m.terminating);
+            0
+        }
+    }
+}
+
+// The bytes of a name, as a part of the caller's own: its length, and where it starts through
+// `offset`.
+#[no_mangle]
+pub extern "C" fn zesthull_name(
+    pairs: &[u32],
+    bytes: &[u8],
+    number: usize,
+    offset: &mut usize,
+) -> usize
+    ensures part { λ r. ⌜ take r (drop (now (offset .exit)) (now (bytes .entry))) ≡ nameBytes (now (pairs .entry)) (now (bytes .entry)) number ⌝ }
+    ensures within { λ r. ⌜ now (offset .exit) + r ≤ length (now (bytes .entry)) ⌝ }
+{
+    *offset = 0;
+    if !names::names_ok(pairs, bytes) {
+        return 0;
+    }
+    if number == 0 {
+        return 0;
+    }
+    if pairs.len() / 2 < number {
+        return 0;
+    }
+    let at = (number - 1) * 2;
+    *offset = wide(pairs[at]);
+    wide(pairs[at + 1])
+}
