@@ -1,5 +1,6 @@
 // Refusals 1 to 6 of the lent records, and with them whether a body is well-formed.
 pub mod depth;
+pub mod walk;
 
 use names::Found;
 use rows::RowNumber;
@@ -72,7 +73,7 @@ fn name_allowed(kind: u32, detail: u32, pair_count: usize, name: usize) -> bool
 }
 
 // Whether the row's kind, detail, position and name are allowed.
-fn row_allowed(rows: &[u32], pairs: &[u32], row: RowNumber) -> bool
+pub fn row_allowed(rows: &[u32], pairs: &[u32], row: RowNumber) -> bool
     requires { ⌜ row .0 < rowCount (now rows) ⌝ }
     ensures { λ r. ⌜ r ≡ not (badRow (now (rows .entry)) (now (pairs .entry)) (row .0)) ⌝ }
 {
@@ -123,7 +124,7 @@ fn first_bad_size(rows: &[u32]) -> Found
 }
 
 // The first cause that applies to the body, or WellFormed. Each cause is tried over all rows before
-// the next.
+// the next; but most bodies are well-formed, so one walk first tries whether none of 4 to 6 applies.
 pub fn refusal_of(rows: &[u32], pairs: &[u32], bytes: &[u8]) -> Checked
     ensures { λ r. ⌜ given r ≡ refusal (now (rows .entry)) (now (pairs .entry)) (now (bytes .entry)) ⌝ }
 {
@@ -135,6 +136,9 @@ pub fn refusal_of(rows: &[u32], pairs: &[u32], bytes: &[u8]) -> Checked
     }
     if let Found::At(i) = names::first_bad_pair(pairs, bytes) {
         return Checked::Refused(Refusal::Pair(i));
+    }
+    if walk::well_formed_rows(rows, pairs) {
+        return Checked::WellFormed;
     }
     if let Found::At(r) = first_bad_row(rows, pairs) {
         return Checked::Refused(Refusal::Row(RowNumber(r)));

@@ -3,7 +3,7 @@ ghost use mathlib.Core.Path.{_≡_};
 ghost use Rattle.rules.specs.Class.{detailAllowed};
 
 // How many details each kind allows, from 0 on.
-const DETAILS: [u32; 21] = [
+const DETAILS: [u8; 21] = [
     1, // Bad
     2, // Decl: 1 for VAR
     1, // Empty
@@ -27,6 +27,12 @@ const DETAILS: [u32; 21] = [
     1, // Range
 ];
 
+fn wide(entry: u8) -> u32
+    ensures { λ r. ⌜ r ≡ entry ⌝ }
+{
+    entry as u32
+}
+
 // Whether a row of this kind may have this detail.
 pub fn detail_allowed(kind: u32, detail: u32) -> bool
     ensures { λ r. ⌜ r ≡ detailAllowed kind detail ⌝ }
@@ -35,5 +41,5 @@ pub fn detail_allowed(kind: u32, detail: u32) -> bool
         return false;
     }
     let k = kind as usize;
-    detail < DETAILS[k]
+    detail < wide(DETAILS[k])
 }

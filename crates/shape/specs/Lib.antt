@@ -1,1 +1,2 @@
+pub mod DetailedTo
 pub mod Held

@@ -4,6 +4,7 @@ use rows::RowNumber;
 ghost use mathlib.Core.Path.{_≡_};
 ghost use mathlib.Core.Bool.{Bool, true, not};
 ghost use Prim.Native.Nat.{ℕ, suc, _<_};
+ghost use lib.Dec.{ltb};
 ghost use Rattle.rules.specs.Scan.{lowest};
 ghost use Rattle.rules.specs.Rows.{rowCount, size, end};
 ghost use Rattle.rules.specs.Class.{block, isStatement, classOf, detailAllowed, base, class};
@@ -11,6 +12,7 @@ ghost use Rattle.rules.specs.Refusals.{branches, holding, mayHold, atLeast, chi
 ghost use Rattle.rules.specs.Body.{Sized, Detailed};
 ghost use Rattle.names.specs.Place.{place};
 ghost use Rattle.shape.specs.Held.{held};
+ghost use Rattle.shape.specs.DetailedTo.{DetailedTo};
 
 // What stands below a row.
 pub enum Holding {
@@ -32,7 +34,7 @@ pub enum Holding {
 
 // What a Block holds: the Block right after a switch or Select is the Block of it.
 fn block_holding(rows: &[u32], row: RowNumber) -> Holding
-    requires { ⌜ (row .0 < rowCount (now rows)) × Detailed (now rows) × (base (now rows) (row .0) ≡ block) ⌝ }
+    requires { ⌜ (row .0 < rowCount (now rows)) × DetailedTo (now rows) (row .0) × (base (now rows) (row .0) ≡ block) ⌝ }
     ensures { λ r. ⌜ held r ≡ holding (class (now (rows .entry)) (row .0)) ⌝ }
 {
     if row.0 == 0 {
@@ -48,8 +50,8 @@ fn block_holding(rows: &[u32], row: RowNumber) -> Holding
 }
 
 // What the row holds.
-fn holding_at(rows: &[u32], row: RowNumber) -> Holding
-    requires { ⌜ (row .0 < rowCount (now rows)) × Detailed (now rows) ⌝ }
+pub fn holding_at(rows: &[u32], row: RowNumber) -> Holding
+    requires { ⌜ (row .0 < rowCount (now rows)) × DetailedTo (now rows) (row .0) ⌝ }
     ensures { λ r. ⌜ held r ≡ holding (class (now (rows .entry)) (row .0)) ⌝ }
 {
     let kind = rows::kind(rows, row);
@@ -85,7 +87,7 @@ fn is_statement(kind: u32) -> bool
 }
 
 // Whether child number i of a row that holds this may be of this kind.
-fn may_hold(holding: Holding, i: usize, kind: u32) -> bool
+pub fn may_hold(holding: Holding, i: usize, kind: u32) -> bool
     ensures { λ r. ⌜ ((d : ℕ) → detailAllowed kind d ≡ true → r ≡ mayHold (held holding) i (classOf kind d)) ⌝ }
 {
     match holding {
@@ -116,7 +118,7 @@ fn may_branch(i: usize, kind: u32) -> bool
 }
 
 // How many children there are at least.
-fn at_least(holding: Holding) -> usize
+pub fn at_least(holding: Holding) -> usize
     ensures { λ r. ⌜ r ≡ atLeast (held holding) ⌝ }
 {
     match holding {
@@ -127,6 +129,22 @@ fn at_least(holding: Holding) -> usize
         Holding::Statements => 0,
         Holding::Cases => 0,
         Holding::Comms => 0,
+    }
+}
+
+// Whether a row of this kind has at least one child.
+pub fn needs_children(kind: u32) -> bool
+    ensures { λ r. ⌜ ((d : ℕ) → detailAllowed kind d ≡ true → r ≡ ltb 0 (atLeast (holding (classOf kind d)))) ⌝ }
+{
+    match kind {
+        3 => true,
+        13 => true,
+        15 => true,
+        16 => true,
+        18 => true,
+        19 => true,
+        20 => true,
+        _ => false,
     }
 }
 
@@ -153,8 +171,8 @@ fn children_fit(rows: &[u32], row: RowNumber, holding: Holding) -> bool
 }
 
 // Row 0 is a Block of all rows.
-fn is_body(rows: &[u32]) -> bool
-    requires { ⌜ (0 < rowCount (now rows)) × Detailed (now rows) ⌝ }
+pub fn is_body(rows: &[u32]) -> bool
+    requires { ⌜ (0 < rowCount (now rows)) × DetailedTo (now rows) 0 ⌝ }
     ensures { λ r. ⌜ r ≡ isBody (now (rows .entry)) ⌝ }
 {
     let root = RowNumber(0);

@@ -6,10 +6,11 @@ use mathlib.Core.List.{List}
 use Prim.Native.Nat.{ℕ, _+_, _*_, _-_, _<_, _≤_}
 use native.Mathlib.Omega.{arith}
 use borrow.Author.Count.{below-none, below-more}
-use borrow.Author.Tests.{eq-eqb, ne-eqb, lt-ltb, le-ltb}
+use borrow.Author.Tests.{eq-eqb, ne-eqb, lt-ltb}
 use Rattle.rules.specs.Rows.{rowCount, size, end}
 use Rattle.rules.specs.Refusals.{badSize}
 use Rattle.rules.proofs.Scan.{found-lowest, none-lowest}
+use Rattle.body.proofs.Passing.{right-size}
 use Rattle.body.proofs.first_bad_size.Statement.{statement}
 use Rattle.body.proofs.first_bad_size.Tie as tie
 
@@ -24,8 +25,7 @@ module _ (w : List ℕ) (r s : ℕ) (e : s ≡ size w r) where
     past-rows h = rw (ne-eqb (size w r) 0 (λ f. omega arith), lt-ltb (rowCount w) (end w r) (omega arith), badSize)
 
     good-size : r + s ≤ rowCount w → badSize w r ≡ false
-    unfolding badSize
-    good-size h = rw (ne-eqb (size w r) 0 (λ f. omega arith), le-ltb (rowCount w) (end w r) (omega arith), badSize)
+    good-size h = right-size w r (omega arith) (omega arith)
 
 abbrev Inv-loop : tie.InvT-loop
 Inv-loop rows count r₀ r = (r ≤ count) × ((k : ℕ) → k < r → badSize rows k ≡ false)

@@ -26,7 +26,7 @@ module _ (s : tie.Start) (z : s .args .row .0 ≡ 0 → ⊥) (k : ℕ) (q : k �
   later = omega arith
 
   allowed : detailAllowed (kind w (r - 1)) (detail w (r - 1)) ≡ true
-  allowed = s .pre .1 (r - 1) (omega (arith, s .pre .0))
+  allowed = s .pre .1 (r - 1) (omega arith)
 
   after-switch : (n : ℕ) → k ≡ n → among switches n ≡ true → cases ≡ holding (class w r)
   after-switch n e m = sym (switch-block w r (s .pre .2) later allowed n (sym q ∙ e) m)

@@ -1,82 +1,14 @@
--- Each turn steps over one child, so that what is left to fit, with the steps that are left, is as good as the whole: one step for each turn.
--- Child number i begins i rows or more after the first child, which leaves a step at each turn. The measure is what is left of the rows.
+-- Each turn steps over one child, so that what is left to fit is as good as the whole (Stepping). The measure is what is left of the rows.
 -- Assumes nothing.
-use mathlib.Core.Path.{_≡_, sym, _∙_, ap, subst}
-use mathlib.Core.Bool.{Bool, true, false}
-use mathlib.Core.List.{List}
-use Prim.Native.Nat.{ℕ, suc, _+_, _-_, _≤_, _<_}
+use mathlib.Core.Path.{_∙_}
+use Prim.Native.Nat.{_-_}
 use native.Mathlib.Omega.{arith}
-use native.Mathlib.Numerals.{add-one}
 use borrow.Author.Needs.{needs}
 use borrow.Author.Tests.{not-true, not-false}
-use lib.Dec.{leb}
-use Rattle.rules.specs.Rows.{rowCount, kind, detail, size, end}
-use Rattle.rules.specs.Class.{detailAllowed, classOf, base}
-use Rattle.rules.specs.Refusals.{Holding as Holds, mayHold, atLeast, childrenFit}
-use Rattle.rules.proofs.Children.{fits-ended, fits-barred, fits-past, fits-next}
-use Rattle.rules.specs.Body.{Sized, Detailed}
 use Rattle.shape.specs.Held.{held}
+use Rattle.shape.proofs.Stepping.{may, Walk, begin, ended, past, barred, next}
 use Rattle.shape.proofs.children_fit.Statement.{statement}
 use Rattle.shape.proofs.children_fit.Tie as tie
-
--- at child number i, row c, of a row that holds h, ends at e and has its first child at b
-record Walk (w : List ℕ) (h : Holds) (e b i c : ℕ) : Type 0 where
-  same : childrenFit (suc e - b - i) w h e i c ≡ childrenFit (suc e - b) w h e 0 b
-  low : b + i ≤ c
-  high : c ≤ e
-  within : e ≤ rowCount w
-
--- the row r holds h, and s is its size as the code read it
-module _ (w : List ℕ) (h : Holds) (r : ℕ) {s : ℕ} (q : s ≡ size w r) where
-  abbrev Fits : Bool → Type 0
-  Fits t = t ≡ childrenFit (size w r) w h (end w r) 0 (suc r)
-
-  begin : Sized w → r < rowCount w → Walk w h (r + s) (r + 1) 0 (r + 1)
-  begin z l =
-      let f : suc (r + s) - (r + 1) - 0 ≡ suc (r + s) - (r + 1) = omega arith in
-      let n = z .some-rows r l in
-      let m = z .within r l in
-      record { same = ap (λ (f : ℕ). childrenFit f w h (r + s) 0 (r + 1)) f; low = omega arith; high = omega (arith, n); within = omega (arith, m) }
-
-  module _ {i c : ℕ} (a : Walk w h (r + s) (r + 1) i c) where
-    -- a step is left
-    turn : childrenFit (suc (s - 1 - i)) w h (r + s) i c ≡ childrenFit (suc (r + s) - (r + 1)) w h (r + s) 0 (r + 1)
-    turn =
-        let z : suc (r + s) - (r + 1) - i ≡ suc (s - 1 - i) = omega arith in
-        subst (λ (f : ℕ). childrenFit f w h (r + s) i c ≡ childrenFit (suc (r + s) - (r + 1)) w h (r + s) 0 (r + 1)) z (a .same)
-
-    whole : Fits (childrenFit (suc (s - 1 - i)) w h (r + s) i c)
-    whole = let z : suc (r + s) - (r + 1) ≡ s = omega arith in turn ∙ rw (z, add-one r, q)
-
-    ended : r + s ≤ c → {n : ℕ} → n ≡ atLeast h → Fits (leb n i)
-    ended l e = rw e (sym (fits-ended w h (r + s) i c (s - 1 - i) l) ∙ whole)
-
-    module _ (l : c < r + s) where
-      past : {n : ℕ} → n ≡ size w c → r + s < c + n → Fits false
-      past e m = sym (fits-past w h (r + s) i c (s - 1 - i) l (subst (λ (x : ℕ). r + s < c + x) e m)) ∙ whole
-
-      -- what `may_hold` says of a kind k, said of the row of that kind
-      module _ {k : ℕ} {t : Bool} (d : Detailed w) (e : k ≡ kind w c) (f : (d : ℕ) → detailAllowed k d ≡ true → t ≡ mayHold h i (classOf k d)) where
-        may : mayHold h i (base w c) ≡ t
-        unfolding base
-        may =
-            sym (f (detail w c) (rw e (d c (omega (arith, a .within)))) ∙ ap (λ (x : ℕ). mayHold h i (classOf x (detail w c))) e)
-
-        barred : t ≡ false → Fits false
-        barred n = sym (fits-barred w h (r + s) i c (s - 1 - i) l (may ∙ n)) ∙ whole
-
-        next : t ≡ true → Sized w → {n : ℕ} → n ≡ size w c → c + n ≤ r + s → Walk w h (r + s) (r + 1) (i + 1) (c + n)
-        next y z {n} g k =
-            let o = z .some-rows c (omega (arith, a .within)) in
-            let f : suc (r + s) - (r + 1) - (i + 1) ≡ s - 1 - i = omega arith in
-            record {
-              same =
-                  rw (f, add-one i, g)
-                  (sym (fits-next w h (r + s) i c (s - 1 - i) l (may ∙ y) (subst (λ (x : ℕ). c + x ≤ r + s) g k)) ∙ turn);
-              low = omega (arith, o);
-              high = k;
-              within = a .within;
-            }
 
 abbrev Inv-loop : tie.InvT-loop
 Inv-loop rows holding end c₀ i₀ c i = Walk rows (held holding) end c₀ i c
@@ -97,7 +29,8 @@ loop-holds : tie.Need-loop-holds Inv-loop μ-loop
 loop-holds c =
     let z = c .before .before in
     let s = z .before .before in
-    begin (s .args .rows .now) (held (s .args .holding)) (s .args .row .0) (z .size .ensures) (s .pre .1) (s .pre .0)
+    let r = s .args .row .0 in
+    begin (s .args .rows .now) (held (s .args .holding)) r (z .size .ensures) (s .pre .1 .some-rows r (s .pre .0)) (s .pre .1 .within r (s .pre .0))
 
 kind-requires : tie.Need-kind-requires Inv-loop μ-loop
 kind-requires c κs = search needs
@@ -110,8 +43,9 @@ returns c =
     let p = c .before .before .before in
     let z = p .before .before .before .before in
     let s = z .before .before in
-    barred (s .args .rows .now) (held (s .args .holding)) (s .args .row .0) (z .size .ensures) (p .before .loop .inv) (p .loop-test .taken)
-    (s .pre .2) (c .before .before .kind .ensures) (c .before .may-hold .ensures) (not-true _ (c .if1 .taken))
+    let l = p .before .loop in
+    barred (s .args .rows .now) (held (s .args .holding)) (s .args .row .0) (z .size .ensures) (l .inv) (p .loop-test .taken)
+    (may (s .args .rows .now) (held (s .args .holding)) (l .i) (l .c) (s .pre .2 (l .c) (omega arith)) (c .before .before .kind .ensures) (c .before .may-hold .ensures) ∙ not-true _ (c .if1 .taken))
 
 size-requires-2 : tie.Need-size-requires-2 Inv-loop μ-loop
 size-requires-2 c κs = search needs
@@ -147,9 +81,10 @@ loop-again c =
     let z = p .before .before .before .before in
     let s = z .before .before in
     let m = c .before .before in
-    next (s .args .rows .now) (held (s .args .holding)) (s .args .row .0) (z .size .ensures) (p .before .loop .inv) (p .loop-test .taken)
-    (s .pre .2) (m .before .before .kind .ensures) (m .before .may-hold .ensures) (not-false _ (m .if1 .left))
-    (s .pre .1) (c .before .size2 .ensures) (c .if2 .left)
+    let l = p .before .loop in
+    next (s .args .rows .now) (held (s .args .holding)) (s .args .row .0) (z .size .ensures) (l .inv) (p .loop-test .taken)
+    (may (s .args .rows .now) (held (s .args .holding)) (l .i) (l .c) (s .pre .2 (l .c) (omega arith)) (m .before .before .kind .ensures) (m .before .may-hold .ensures) ∙ not-false _ (m .if1 .left))
+    (s .pre .1 .some-rows (l .c) (omega arith)) (c .before .size2 .ensures) (c .if2 .left)
 
 at-least-requires : tie.Need-at-least-requires Inv-loop μ-loop
 at-least-requires c κs = search needs

@@ -4,6 +4,7 @@ use mathlib.Core.Path.{_≡_, refl, sym, _∙_, subst}
 use mathlib.Core.Bool.{true, false}
 use mathlib.Core.List.{List}
 use Prim.Native.Nat.{ℕ}
+use native.Mathlib.Omega.{arith}
 use lib.Dec.{eqb}
 use borrow.Author.Needs.{needs}
 use Rattle.rules.specs.Rows.{kind, detail}
@@ -23,7 +24,7 @@ module _ (s : tie.Start) (k : ℕ) (q : k ≡ kind (s .args .rows .now) (s .args
   r = s .args .row .0
 
   allowed : detailAllowed (kind w r) (detail w r) ≡ true
-  allowed = s .pre .1 r (s .pre .0)
+  allowed = s .pre .1 r (omega arith)
 
   a-block : k ≡ 12 → base w r ≡ block
   a-block e = is-block w r allowed (sym q ∙ e)

@@ -4,13 +4,16 @@ use mathlib.Core.Path.{_≡_, sym, _∙_, ap}
 use mathlib.Core.Bool.{Bool, true, not}
 use mathlib.Core.List.{List}
 use mathlib.Core.Logic.{⊎-elim}
-use Prim.Native.Nat.{ℕ, suc}
+use Prim.Native.Nat.{ℕ, suc, _<_}
+use native.Mathlib.Omega.{arith}
 use borrow.Author.Needs.{needs}
 use borrow.Author.Tests.{not-true, not-false}
-use Rattle.rules.specs.Rows.{size, end}
+use Rattle.rules.specs.Rows.{rowCount, size, end}
 use Rattle.rules.specs.Class.{class}
 use Rattle.rules.specs.Refusals.{Holding as Holds, holding, childrenFit, isBody, badShape}
+use Rattle.rules.specs.Body.{Detailed}
 use Rattle.rules.proofs.Children.{shape-fits, shape-no-body}
+use Rattle.shape.specs.DetailedTo.{DetailedTo}
 use Rattle.shape.proofs.shape_holds.Statement.{statement}
 use Rattle.shape.proofs.shape_holds.Tie as tie
 
@@ -22,8 +25,14 @@ fitted : (w : List ℕ) (r : ℕ) (t : Bool) (h : Holds)
     → t ≡ not (badShape w r)
 fitted w r t h b e f = f ∙ ap (λ (g : Holds). childrenFit (size w r) w g (end w r) 0 (suc r)) e ∙ sym (shape-fits w r b)
 
+-- the details of all rows are those up to any row
+detailed-to : (w : List ℕ) (r : ℕ) → Detailed w → r < rowCount w → DetailedTo w r
+detailed-to w r d l k h = d k (omega arith)
+
 is-body-requires : tie.Need-is-body-requires
-is-body-requires c κs = search needs
+is-body-requires c κs =
+    let s = c .before .before .before in
+    let l : 0 < rowCount (s .args .rows .now) = omega (arith, s .pre .0) in (l, detailed-to (s .args .rows .now) 0 (s .pre .2) l)
 
 returns : tie.Need-returns
 returns c =
@@ -32,7 +41,7 @@ returns c =
     sym (shape-no-body (s .args .rows .now) (s .args .row .0) (c .before .before .if1 .taken) other)
 
 holding-at-requires : tie.Need-holding-at-requires
-holding-at-requires c κs = search needs
+holding-at-requires c κs = let s = c .before .before .before in (s .pre .0, detailed-to (s .args .rows .now) (s .args .row .0) (s .pre .2) (s .pre .0))
 
 children-fit-requires : tie.Need-children-fit-requires
 children-fit-requires c κs = search needs

@@ -1,0 +1,2 @@
+pub mod Deeper
+pub mod Passing
