@@ -22,17 +22,17 @@ use Rattle.rules.proofs.Test.{case-of, clash}
 use Rattle.rules.proofs.Scan.{none-highest}
 use Rattle.rules.proofs.ClassTests.{one-is}
 use Rattle.rules.proofs.Every.{is-one}
-use Rattle.rules.specs.Scope.{isBlock, holdsItems}
 use Rattle.lists.specs.Listed.{Listed}
 use Rattle.tables.specs.Canon.{CanonTable, DeclaredTable, Tables}
-use Rattle.branches.specs.Walk.{currentLabel, Walking, Walked, faultsAt, bindingAt, previousPending}
+use Rattle.branches.specs.Walk.{Walking, Walked, faultsAt, bindingAt, previousPending}
 use Rattle.branches.proofs.CanonRows.{body-end}
 use Rattle.branches.proofs.WalkFaults.{faults-zero, words-length}
 use Rattle.branches.proofs.WalkBindings.{each-length, each-at, bindings-zero, are-bindings, word-before, at-other}
 use Rattle.branches.proofs.WalkPending.{waits}
 use Rattle.label.specs.Rest.{Reported, AtEnd, faultsLeft}
+use Rattle.label.specs.Contexts.{Contexts}
 use Rattle.label.specs.Answered.{NoName, Cleared, Lent, Answered}
-use Rattle.label.proofs.Contexts.{current-root}
+use Rattle.label.proofs.ContextRows.{contexts-start}
 use Rattle.label.proofs.LeftRows.{branch-word, pair-most}
 use Rattle.label.proofs.LeftTurns.{drop-further}
 use Rattle.label.proofs.UnusedRows.{ninesTo, nines-sheet}
@@ -65,8 +65,8 @@ module _ (w p b : List ℕ) where
   unfolding previousPending
   nothing-pending c = none-highest (waits w p b 0 c) 0 (λ k h. absurd (omega arith))
 
-  pub walking-start : (cs ds ls s t h l u : List ℕ) → Lent w p cs ds ls s t h l u → Walking w p b 0 0 s t h l
-  walking-start cs ds ls s t h l u lent = record {
+  walking-start : (cs ds ls s t h l d m u : List ℕ) → Lent w p cs ds ls s t h l d m u → Walking w p b 0 0 s t h l
+  walking-start cs ds ls s t h l d m u lent = record {
     rows = omega arith;
     count = ap length (sym (faults-zero w p b));
     sheet-room = lent .sheet-room;
@@ -80,16 +80,14 @@ module _ (w p b : List ℕ) where
   }
 
 -- the tables are made, and the walk goes on from row 0
-pub walk-requires : {w p b : List ℕ} → Body w p b → (cs′ ds′ ls′ cs ds ls s t h l u : List ℕ) → Lent w p cs ds ls s t h l u → CanonTable p b cs′
+pub walk-requires : {w p b : List ℕ} → Body w p b → (cs′ ds′ ls′ cs ds ls s t h l d m u : List ℕ) → Lent w p cs ds ls s t h l d m u → CanonTable p b cs′
     → DeclaredTable w p b ds′ → length ls′ ≡ length ls → Listed w ls′
-    → Tables w p b cs′ ds′ ls′
-    × (Walking w p b 0 0 s t h l
-    × (((0 < rowCount w) × (holdsItems (class w 0) ≡ true) × (0 ≤ 2000)) × (isBlock (class w 0) ≡ true → 0 ≡ word (currentLabel w p b 0))))
-walk-requires {w} {p} {b} body cs′ ds′ ls′ cs ds ls s t h l u lent by-name by-canon same listed = (
+    → Tables w p b cs′ ds′ ls′ × (Walking w p b 0 0 s t h l × Contexts w p b 0 d m)
+walk-requires {w} {p} {b} body cs′ ds′ ls′ cs ds ls s t h l d m u lent by-name by-canon same listed = (
   record { body = body; by-name = by-name; by-canon = by-canon; lists-room = omega (arith, lent .lists-room); listed = listed },
   (
-    walking-start w p b cs ds ls s t h l u lent,
-    ((body .some-rows, rw (body .root-class), omega arith), λ _. ap (λ (o : Option ℕ). word o) (sym (current-root body))),
+    walking-start w p b cs ds ls s t h l d m u lent,
+    contexts-start (lent .latests-room) (lent .latests-zero) (lent .labels-room) (lent .labels-zero),
   ),
 )
 
@@ -117,18 +115,14 @@ module _ {w p b : List ℕ} (body : Body w p b) where
   unfolding faultsLeft
   walked-more = omega (arith, length-append (faultsAt w p b (rowCount w)) (each (unresolved w p b 0) (rowCount w)))
 
-  walked-all : {n : ℕ} {s t s′ t′ h l : List ℕ} → Walked w p b (end w 0) n s t s′ t′ h l → Walked w p b (rowCount w) n s t s′ t′ h l
-  walked-all x = rw (body-end body) at x
-
-  pub walked-end : (n : ℕ) (s t s′ t′ h l : List ℕ) → Walked w p b (end w 0) n s t s′ t′ h l → AtEnd w p b n s′ t′
+  pub walked-end : (n : ℕ) (s t s′ t′ h l : List ℕ) → Walked w p b (rowCount w) n s t s′ t′ h l → AtEnd w p b n s′ t′
   walked-end n s t s′ t′ h l y =
-      let x = walked-all y .state in
+      let x = y .state in
       record { count = x .count; sheet-room = x .sheet-room; reported = x .reported; bindings-room = x .bindings-room; bound = x .bound }
 
-  pub walked-answered : (n m k : ℕ) (s t s₁ t′ h l s₂ s′ : List ℕ) → Walked w p b (end w 0) n s t s₁ t′ h l → Reported m (faultsLeft w p b) s₁ s₂
+  pub walked-answered : (n m k : ℕ) (s t s₁ t′ h l s₂ s′ : List ℕ) → Walked w p b (rowCount w) n s t s₁ t′ h l → Reported m (faultsLeft w p b) s₁ s₂
       → Reported k (sheetOf w p b 0) s₂ s′ → Answered w p b k s t s′ t′
-  walked-answered n m k s t s₁ t′ h l s₂ s′ y left all =
-      let x = walked-all y in
+  walked-answered n m k s t s₁ t′ h l s₂ s′ x left all =
       let nm : n ≤ m = omega (arith, x .state .count, left .count, walked-more) in
       let mk : m ≤ k = omega (arith, all .count, left .count, left-more) in
       record {
@@ -169,7 +163,7 @@ unused-start n m s t s′ a x = (
 -- ---- tables of 0, and bindings that were cleared
 pub lent-zeros : {w p b : List ℕ} → Body w p b → (m n : ℕ) (s t t′ : List ℕ) → 500 < m → 2000 ≤ n → rowCount w * 8 ≤ length s → rowCount w ≤ length t
     → Cleared (rowCount w) t t′
-    → Lent w p (replicate m 0) (replicate m 0) (replicate n 0) s t′ (replicate m 0) (replicate n 0) (replicate m 0)
+    → Lent w p (replicate m 0) (replicate m 0) (replicate n 0) s t′ (replicate m 0) (replicate n 0) (replicate n 0) (replicate n 0) (replicate m 0)
 lent-zeros {w} {p} body m n s t t′ h k r q c =
     let names : pairCount p < length {A = ℕ} (replicate m 0) = omega (arith, length-replicate {A = ℕ} m 0, pair-most body) in
     let rows : rowCount w ≤ length {A = ℕ} (replicate n 0) = omega (arith, length-replicate {A = ℕ} n 0, body .most-rows) in
@@ -181,10 +175,14 @@ lent-zeros {w} {p} body m n s t t′ h k r q c =
       bindings-room = omega (arith, c .cleared-length);
       heads-room = names;
       links-room = rows;
+      latests-room = rows;
+      labels-room = rows;
       used-room = names;
       declareds-zero = zeros-at m;
       bindings-zero = c .zeros;
       heads-zero = zeros-at m;
+      latests-zero = zeros-at n;
+      labels-zero = zeros-at n;
       used-zero = zeros-at m;
     }
 

@@ -1,8 +1,12 @@
-pub mod Contexts
+pub mod RowWords
+pub mod ListRows
+pub mod CurrentLabel
+pub mod ContextRows
+pub mod TableSteps
+pub mod WalkSteps
+pub mod RowSteps
 pub mod LeftRows
 pub mod LeftTurns
 pub mod UnusedRows
-pub mod WalkPieces
-pub mod WalkSteps
 pub mod CallRows
 pub mod NamelessRows

@@ -1,191 +1,106 @@
--- The laws of the context as the walk has them: by the kinds and details that the code tests, with `x + 1` for the row after x, and one state for the loop over items.
+-- The walk row by row: a row that is no label, no branch and no Block leaves the words as they are, a Block gets its current label, and what two pieces of the
+-- walk do one after the other is one piece.
 -- Assumes nothing.
-use mathlib.Core.Path.{_≡_, refl, sym, _∙_}
-use mathlib.Core.Bool.{Bool, true, false, _&&_, _||_, not}
-use mathlib.Core.List.{List, [], _∷_}
-use Prim.Native.Nat.{ℕ, zero, suc, _+_, _≤_, _<_}
+use mathlib.Core.Path.{_≡_, refl, sym, _∙_, ap}
+use mathlib.Core.Bool.{true, false}
+use mathlib.Core.List.{List}
+use Prim.Native.Nat.{ℕ, zero, suc, _+_, _-_, _*_, _≤_, _<_}
+use native.Mathlib.Nat.{add-zero, add-suc}
 use native.Mathlib.Numerals.{add-one}
 use native.Mathlib.Omega.{arith}
-use lib.Dec.{eqb}
-use borrow.Author.Tests.{eq-eqb, ne-eqb, not-true}
-use Rattle.rules.specs.Scan.{lowest}
-use Rattle.rules.specs.Rows.{rowCount, kind, detail, end, here, Child}
-use Rattle.rules.specs.Class.{Class, declaration, labeled, if, ifElse, oneOf, isBreakable, detailAllowed, classOf, following, base, class}
-use Rattle.rules.specs.Scope.{isList, holdsItems}
-use Rattle.rules.specs.Body.{Body}
-use Rattle.rules.specs.Labels.{isClass, isLabel, word}
-use Rattle.rules.proofs.Test.{case-of, clash}
-use Rattle.rules.proofs.Every.{every, same, same-eq, implies, classAt, of-classes, is-one}
-use Rattle.rules.proofs.Details.{of-allowed}
-use Rattle.rules.proofs.ClassRules.{class-rule, by-one}
-use Rattle.rules.proofs.ClassTests.{one-is}
-use Rattle.rules.proofs.Nesting.{item-next as next-item}
-use Rattle.rules.proofs.LabelRows.{other-label}
-use Rattle.tables.specs.Canon.{rowCanon}
-use Rattle.branches.specs.Walk.{latestIn}
-use Rattle.branches.proofs.CanonRows.{label-numbered, numbered-label}
-use Rattle.label.specs.Rest.{HasContext, Latest}
-use Rattle.label.proofs.Contexts.{
-  goesDown,
-  passesOn,
-  breakable-down,
-  child-row,
-  item-first,
-  item-next,
-  context-item,
-  context-below,
-  context-body,
-  context-else,
-  context-below-label,
-  latest-plain,
-  latest-declaration,
-  latest-below,
-  latest-else,
+use lib.ListN.{length, set, length-append}
+use Rattle.rules.specs.Rows.{rowCount}
+use Rattle.rules.specs.Class.{labeled, isBranch, class}
+use Rattle.rules.specs.Scope.{isBlock}
+use Rattle.rules.specs.Labels.{isLabel, report, word}
+use Rattle.rules.proofs.Test.{clash}
+use Rattle.rules.proofs.ClassTests.{break-branch, branch-goto, branch-fallthrough}
+use Rattle.branches.specs.Walk.{faultsAt, currentLabel, Walking, Walked}
+use Rattle.branches.proofs.WalkFaults.{faults-suc}
+use Rattle.branches.proofs.WalkRows.{Idle, idle-walked, block-walked}
+use Rattle.label.specs.Contexts.{Contexts}
+use Rattle.label.proofs.LeftTurns.{drop-further}
+
+-- ---- one row
+idle : {w p b : List ℕ} (x : ℕ) → isBranch (class w x) ≡ false → isLabel w p b 0 x ≡ false → Idle w p b x
+idle {w} x f n = record {
+  no-label = n;
+  no-goto = λ e. let z : false ≡ true = sym f ∙ branch-goto (class w x) e in clash (cc);
+  no-break = λ y. let z : false ≡ true = sym f ∙ break-branch (class w x) (y .breaks) in clash (cc);
+  no-fallthrough = λ y. let z : false ≡ true = sym f ∙ branch-fallthrough (class w x) (y .falls-through) in clash (cc);
 }
 
--- ---- the class by the row's words, of tests that do not tell a Block of a switch or Select apart
-pub own-words : (P : Class → Bool) → every 23 (λ i. every 23 (λ j. same (P (following (classAt i) (classAt j))) (P (classAt j)))) ≡ true
-    → (w : List ℕ) (r : ℕ) → P (class w r) ≡ P (base w r)
-unfolding class
-own-words P e w zero = refl
-own-words P e w (suc q) =
-    same-eq (P (following (base w q) (base w (suc q)))) (P (base w (suc q))) (of-classes (λ b c. same (P (following b c)) (P c)) e (base w q) (base w (suc q)))
+module _ {w p b : List ℕ} {x f : ℕ} {s bs hs l : List ℕ} (h : x < rowCount w) (walking : Walking w p b x f s bs hs l)
+    (no-label : isLabel w p b 0 x ≡ false) (no-branch : isBranch (class w x) ≡ false) where
+  pub passed : isBlock (class w x) ≡ false → Walked w p b (suc x) f s bs s bs hs l
+  passed n = idle-walked w p b x f s bs hs l h (idle x no-branch no-label) walking n
 
-pub by-words : (T : ℕ → ℕ → Bool) (P : Class → Bool)
-    → every 21 (λ k. every 4 (λ d. implies (detailAllowed k d) (same (T k d) (P (classOf k d))))) ≡ true
-    → every 23 (λ i. every 23 (λ j. same (P (following (classAt i) (classAt j))) (P (classAt j)))) ≡ true
-    → {w p b : List ℕ} → Body w p b → (x : ℕ) → x < rowCount w → T (kind w x) (detail w x) ≡ P (class w x)
-unfolding base
-by-words T P e f {w} body x h =
-    same-eq (T (kind w x) (detail w x)) (P (classOf (kind w x) (detail w x)))
-    (of-allowed (λ k d. same (T k d) (P (classOf k d))) e (kind w x) (detail w x) (body .details x h))
-    ∙ sym (own-words P f w x)
+  pub linked : {l′ : List ℕ} → l′ ≡ set l x (word (currentLabel w p b x)) → Walked w p b (suc x) f s bs s bs hs l′
+  linked e = rw e (block-walked w p b x f s bs hs l h (idle x no-branch no-label) walking (word (currentLabel w p b x)) refl)
 
-module _ {w p b : List ℕ} (body : Body w p b) (x : ℕ) (h : x < rowCount w) where
-  label-words : eqb (kind w x) 3 ≡ oneOf (labeled ∷ []) (class w x)
-  unfolding every lowest detailAllowed classOf
-  label-words = by-words (λ k d. eqb k 3) (oneOf (labeled ∷ [])) refl refl body x h
+pub labeled-passed : {w p b : List ℕ} {x f : ℕ} {s bs hs l : List ℕ} → x < rowCount w → Walking w p b x f s bs hs l → class w x ≡ labeled
+    → isLabel w p b 0 x ≡ false → Walked w p b (suc x) f s bs s bs hs l
+labeled-passed h walking c n = passed h walking n (rw c) (rw c)
 
-  if-words : eqb (kind w x) 13 ≡ oneOf (if ∷ ifElse ∷ []) (class w x)
-  unfolding every lowest detailAllowed classOf
-  if-words = by-words (λ k d. eqb k 13) (oneOf (if ∷ ifElse ∷ [])) refl refl body x h
+-- ---- one piece after another
+faults-grow : (w p b : List ℕ) (x d : ℕ) → length (faultsAt w p b x) ≤ length (faultsAt w p b (x + d))
+faults-grow w p b x zero = rw (add-zero x) (omega arith)
+faults-grow w p b x (suc d) =
+    let e : length (faultsAt w p b (suc (x + d))) ≡ length (faultsAt w p b (x + d)) + length (report w p b 0 (x + d)) =
+    ap length (faults-suc w p b (x + d)) ∙ length-append (faultsAt w p b (x + d)) (report w p b 0 (x + d)) in
+    rw (add-suc x d) (omega (arith, faults-grow w p b x d, e))
 
-  else-words : (eqb (kind w x) 13 && not (eqb (detail w x) 0)) ≡ oneOf (ifElse ∷ []) (class w x)
-  unfolding every lowest detailAllowed classOf
-  else-words = by-words (λ k d. eqb k 13 && not (eqb d 0)) (oneOf (ifElse ∷ [])) refl refl body x h
+faults-more : (w p b : List ℕ) (x y : ℕ) → x ≤ y → length (faultsAt w p b x) ≤ length (faultsAt w p b y)
+faults-more w p b x y h =
+    let q : x + (y - x) ≡ y = omega arith in
+    omega (arith, faults-grow w p b x (y - x), ap (λ (k : ℕ). length (faultsAt w p b k)) q)
 
-  declaration-words : (eqb (detail w x) 1 && (eqb (kind w x) 1 || eqb (kind w x) 7)) ≡ isClass w declaration x
-  unfolding every lowest detailAllowed classOf
-  declaration-words = by-words (λ k d. eqb d 1 && (eqb k 1 || eqb k 7)) (oneOf (declaration ∷ [])) refl refl body x h
-
-  pub kind-labeled : kind w x ≡ 3 → class w x ≡ labeled
-  kind-labeled k = is-one (class w x) labeled (sym label-words ∙ eq-eqb (kind w x) 3 k)
-
-  pub kind-if : kind w x ≡ 13 → oneOf (if ∷ ifElse ∷ []) (class w x) ≡ true
-  kind-if k = sym if-words ∙ eq-eqb (kind w x) 13 k
-
-  -- an If by its detail
-  pub detail-if : oneOf (if ∷ ifElse ∷ []) (class w x) ≡ true → detail w x ≡ 0 → goesDown (class w x) ≡ true
-  detail-if t d = by-one _ (if ∷ ifElse ∷ []) (class w x) t (λ e. rw e)
-      (λ e.
-      let z : false ≡ true = sym (rw (if-words ∙ t, eq-eqb (detail w x) 0 d)) ∙ else-words ∙ one-is (class w x) ifElse e in
-      absurd (clash (cc)))
-
-  pub detail-else : oneOf (if ∷ ifElse ∷ []) (class w x) ≡ true → (detail w x ≡ 0 → ⊥) → class w x ≡ ifElse
-  detail-else t d = is-one (class w x) ifElse (sym else-words ∙ rw (if-words ∙ t, ne-eqb (detail w x) 0 d))
-
-  -- a declaration by its words
-  pub words-declaration : detail w x ≡ 1 → (kind w x ≡ 1 → class w x ≡ declaration) × (kind w x ≡ 7 → class w x ≡ declaration)
-  words-declaration d = (
-    λ k. is-one (class w x) declaration (sym declaration-words ∙ rw (eq-eqb (detail w x) 1 d, eq-eqb (kind w x) 1 k)),
-    λ k. is-one (class w x) declaration (sym declaration-words ∙ rw (eq-eqb (detail w x) 1 d, k)),
-  )
-
-  pub detail-plain : (detail w x ≡ 1 → ⊥) → isClass w declaration x ≡ false
-  detail-plain d = sym declaration-words ∙ rw (ne-eqb (detail w x) 1 d)
-
-  pub kind-plain : (kind w x ≡ 1 → ⊥) → (kind w x ≡ 7 → ⊥) → isClass w declaration x ≡ false
-  kind-plain j k = sym declaration-words ∙ case-of (eqb (detail w x) 1)
-      (λ t. rw (t, ne-eqb (kind w x) 1 j, ne-eqb (kind w x) 7 k))
-      (λ t. rw t)
-
-  -- what is left: leaves and rows that hold items
-  pub kind-passed : (kind w x ≡ 3 → ⊥) → (kind w x ≡ 13 → ⊥) → isBreakable (class w x) ≡ false → passesOn (class w x) ≡ false
-  unfolding every lowest
-  kind-passed j k f = not-true (passesOn (class w x)) (class-rule
-      (λ c. not (oneOf (labeled ∷ []) c) && (not (oneOf (if ∷ ifElse ∷ []) c) && not (isBreakable c))) (λ c. not (passesOn c)) refl (class w x)
-      (rw (sym label-words ∙ ne-eqb (kind w x) 3 j, sym if-words ∙ ne-eqb (kind w x) 13 k, f)))
-
--- ---- the context of the row that is walked next, from that of row x
-module _ {w p b : List ℕ} (body : Body w p b) (x latest label : ℕ) (h : x < rowCount w) (context : HasContext w p b x latest label) where
-  no-label : (class w x ≡ labeled → ⊥) → isLabel w p b 0 x ≡ false
-  no-label = other-label w p b 0 x
-
-  after : (n : ℕ) → HasContext w p b (suc x) latest n → HasContext w p b (x + 1) latest n
-  after n f = rw (add-one x) f
-
-  -- below `_`
-  pub below-blank : class w x ≡ labeled → rowCanon w p b x ≡ 0 → HasContext w p b (x + 1) latest label
-  below-blank e z = after label (context-below body x latest label h context (rw e)
-      (case-of (isLabel w p b 0 x) (λ t. absurd (omega (arith, label-numbered body x h t))) (λ f. f)))
-
-  -- below another label
-  pub below-label : class w x ≡ labeled → (rowCanon w p b x ≡ 0 → ⊥) → HasContext w p b (x + 1) latest (x + 1)
-  below-label e z =
-      rw (add-one x) (context-below-label body x latest label h context (numbered-label body x h e (omega arith)) e)
-
-  pub below-breakable : isBreakable (class w x) ≡ true → HasContext w p b (x + 1) latest label
-  below-breakable t = after label (context-below body x latest label h context (breakable-down (class w x) t)
-      (no-label (λ e. let z : false ≡ true = rw e at t in clash (cc))))
-
-  -- both parts of an If
-  pub below-if : oneOf (if ∷ ifElse ∷ []) (class w x) ≡ true → HasContext w p b (x + 1) latest label
-  below-if t = after label (by-one _ (if ∷ ifElse ∷ []) (class w x) t
-      (λ e. context-below body x latest label h context (rw e) (no-label (λ d. clash (cc))))
-      (λ e. context-body body x latest label h context e (no-label (λ d. clash (cc)))))
-
-  pub below-else : class w x ≡ ifElse → HasContext w p b (end w (x + 1)) latest label
-  below-else e = rw (add-one x) (context-else body x latest label h context e (no-label (λ d. clash (cc))))
-
-  -- ---- what a row that is walked at once hands on
-  pub recorded-plain : passesOn (class w x) ≡ false → isClass w declaration x ≡ false → Latest w p b x latest
-  recorded-plain = latest-plain body x latest label h context
-
-module _ {w p b : List ℕ} (body : Body w p b) (x latest : ℕ) (h : x < rowCount w) where
-  pub recorded : class w x ≡ declaration → Latest w p b x (x + 1)
-  recorded e = rw (add-one x) (latest-declaration body x h e)
-
-  -- and a row that hands on what its last child does
-  pub handed-on : goesDown (class w x) ≡ true → Latest w p b (x + 1) latest → Latest w p b x latest
-  handed-on t f = latest-below body x latest h t (rw (add-one x) at f)
-
-  pub handed-on-else : class w x ≡ ifElse → Latest w p b (end w (x + 1)) latest → Latest w p b x latest
-  handed-on-else e f = latest-else body x latest h e (rw (add-one x) at f)
-
--- ---- the loop over the items of row x: c is the next item, or where they end
-pub record AtItem (w p b : List ℕ) (x c latest : ℕ) : Type 0 where
-  pub within : c ≤ end w x
-  pub item : c < end w x → Child w x c
-  pub latest-is : isList (class w x) ≡ true → latest ≡ word (latestIn w p b x c)
-
-module _ {w p b : List ℕ} (body : Body w p b) (x : ℕ) (h : x < rowCount w) where
-  pub first-item : AtItem w p b x (x + 1) 0
-  first-item = record {
-    within = omega (arith, body .sized .some-rows x h);
-    item = λ l. let m : suc x < end w x = omega arith in rw (add-one x) (here m);
-    latest-is = rw (add-one x) (item-first body x);
-  }
-
-  module _ (c latest : ℕ) (at : AtItem w p b x c latest) (l : c < end w x) where
-    pub item-row : c < rowCount w
-    item-row = child-row body x c h (at .item l) .2
-
-    pub item-context : holdsItems (class w x) ≡ true → HasContext w p b c latest 0
-    item-context t = context-item body x c latest h t (at .item l) (at .latest-is)
-
-    pub next-at : (n : ℕ) → Latest w p b c n → AtItem w p b x (end w c) n
-    next-at n f = record {
-      within = body .child-within x c h (at .item l);
-      item = λ m. next-item (at .item l) m;
-      latest-is = item-next body x c n h (at .item l) f;
+walked-then : {w p b : List ℕ} {x y f g : ℕ} {s bs s₁ b₁ h₁ l₁ s₂ b₂ h₂ l₂ : List ℕ}
+    → x ≤ y → Walked w p b x f s bs s₁ b₁ h₁ l₁ → Walked w p b y g s₁ b₁ s₂ b₂ h₂ l₂ → Walked w p b y g s bs s₂ b₂ h₂ l₂
+walked-then {w} {p} {b} {x} {y} {f} {g} {s} {bs} {s₁} k a c =
+    let m : f * 4 ≤ g * 4 = omega (arith, a .state .count, c .state .count, faults-more w p b x y k) in
+    record {
+      state = c .state;
+      sheet-length = c .sheet-length ∙ a .sheet-length;
+      sheet-kept = c .sheet-kept ∙ drop-further (f * 4) (g * 4) s₁ s m (a .sheet-kept);
+      bindings-length = c .bindings-length ∙ a .bindings-length;
+      bindings-kept = c .bindings-kept ∙ a .bindings-kept;
     }
+
+-- ---- the loop over the rows: what it leaves of the words at its start when it stands at row x
+pub record Turn (w p b : List ℕ) (x f : ℕ) (s₀ b₀ h₀ l₀ d₀ t₀ s bs hs l d t : List ℕ) : Type 0 where
+  pub so-far : Walked w p b x f s₀ b₀ s bs hs l
+  pub contexts : Contexts w p b x d t
+  pub heads-length : length hs ≡ length h₀
+  pub links-length : length l ≡ length l₀
+  pub latests-length : length d ≡ length d₀
+  pub labels-length : length t ≡ length t₀
+
+pub turn-first : {w p b s bs hs l d t : List ℕ} → Walking w p b 0 0 s bs hs l → Contexts w p b 0 d t → Turn w p b 0 0 s bs hs l d t s bs hs l d t
+turn-first a c = record {
+  so-far = record { state = a; sheet-length = refl; sheet-kept = refl; bindings-length = refl; bindings-kept = refl };
+  contexts = c;
+  heads-length = refl;
+  links-length = refl;
+  latests-length = refl;
+  labels-length = refl;
+}
+
+pub turn-next : {w p b s₀ b₀ h₀ l₀ d₀ t₀ s bs hs l d t s′ b′ h′ l′ d′ t′ : List ℕ} {x f f′ : ℕ} → Turn w p b x f s₀ b₀ h₀ l₀ d₀ t₀ s bs hs l d t
+    → Walked w p b (suc x) f′ s bs s′ b′ h′ l′ → Contexts w p b (suc x) d′ t′
+    → length h′ ≡ length hs → length l′ ≡ length l → length d′ ≡ length d → length t′ ≡ length t
+    → Turn w p b (x + 1) f′ s₀ b₀ h₀ l₀ d₀ t₀ s′ b′ h′ l′ d′ t′
+turn-next {x = x} a y c i j k m = rw (add-one x) (record {
+  so-far = walked-then (omega arith) (a .so-far) y;
+  contexts = c;
+  heads-length = i ∙ a .heads-length;
+  links-length = j ∙ a .links-length;
+  latests-length = k ∙ a .latests-length;
+  labels-length = m ∙ a .labels-length;
+})
+
+pub turn-last : {w p b s₀ b₀ h₀ l₀ d₀ t₀ s bs hs l d t : List ℕ} {x f : ℕ} → Turn w p b x f s₀ b₀ h₀ l₀ d₀ t₀ s bs hs l d t → rowCount w ≤ x
+    → Walked w p b (rowCount w) f s₀ b₀ s bs hs l
+turn-last {w} {x = x} a n =
+    let e : x ≡ rowCount w = omega (arith, a .so-far .state .rows) in
+    rw e at (a .so-far)

@@ -20,7 +20,7 @@ pub record Cleared (n : ℕ) (t t′ : List ℕ) : Type 0 where
   pub kept : drop n t′ ≡ drop n t
 
 -- room for each table, and 0 where the walk starts from 0
-pub record Lent (w p canons declareds lists sheet bindings heads links used : List ℕ) : Type 0 where
+pub record Lent (w p canons declareds lists sheet bindings heads links latests labels used : List ℕ) : Type 0 where
   pub canons-room : pairCount p < length canons
   pub declareds-room : pairCount p < length declareds
   pub lists-room : rowCount w ≤ length lists
@@ -28,10 +28,14 @@ pub record Lent (w p canons declareds lists sheet bindings heads links used : Li
   pub bindings-room : rowCount w ≤ length bindings
   pub heads-room : pairCount p < length heads
   pub links-room : rowCount w ≤ length links
+  pub latests-room : rowCount w ≤ length latests
+  pub labels-room : rowCount w ≤ length labels
   pub used-room : pairCount p < length used
   pub declareds-zero : (c : ℕ) → getD declareds c 0 ≡ 0
   pub bindings-zero : (g : ℕ) → g < rowCount w → getD bindings g 0 ≡ 0
   pub heads-zero : (c : ℕ) → getD heads c 0 ≡ 0
+  pub latests-zero : (l : ℕ) → getD latests l 0 ≡ 0
+  pub labels-zero : (l : ℕ) → getD labels l 0 ≡ 0
   pub used-zero : (c : ℕ) → getD used c 0 ≡ 0
 
 -- the sheet's row count, and both written

@@ -1,4 +1,5 @@
 pub mod Given
 pub mod Left
 pub mod Rest
+pub mod Contexts
 pub mod Answered

@@ -1,19 +1,17 @@
--- What the walk hands on to the end of the sheet, and the context that goes down the walk.
+-- What the walk hands on to the end of the sheet.
 -- Assumes nothing.
 use mathlib.Core.Path.{_≡_}
-use mathlib.Core.Bool.{Bool, true, false, _||_, not}
+use mathlib.Core.Bool.{not}
 use mathlib.Core.List.{List, _++_}
 use mathlib.Core.Option.{some}
 use Prim.Native.Nat.{ℕ, _*_, _≤_, _<_}
 use lib.Dec.{eqb}
 use lib.ListN.{length, getD, take, drop}
-use Rattle.rules.specs.Rows.{rowCount, end}
-use Rattle.rules.specs.Class.{isCase, isComm, class}
+use Rattle.rules.specs.Rows.{rowCount}
 use Rattle.rules.specs.Names.{pairCount}
-use Rattle.rules.specs.Scope.{listOf}
-use Rattle.rules.specs.Labels.{Fault, each, unresolved, used, declaredAt, word}
+use Rattle.rules.specs.Labels.{Fault, each, unresolved, used, declaredAt}
 use Rattle.rules.specs.Calls.{faultWords}
-use Rattle.branches.specs.Walk.{faultsAt, bindingsAt, latestIn, InContext}
+use Rattle.branches.specs.Walk.{faultsAt, bindingsAt}
 
 -- the first rows of a sheet are these faults, n of them, and the words past them are as they were
 pub record Reported (n : ℕ) (faults : List Fault) (sheet sheet′ : List ℕ) : Type 0 where
@@ -39,11 +37,3 @@ module _ (w p b : List ℕ) where
   pub record UsedTable (useds : List ℕ) : Type 0 where
     pub room : pairCount p < length useds
     pub at-canon : (c d : ℕ) → 0 < c → c ≤ pairCount p → declaredAt w p b 0 c ≡ some d → eqb (getD useds c 0) 0 ≡ not (used w p b 0 d)
-
-  -- a row that is no clause comes with its context
-  abbrev pub HasContext : ℕ → ℕ → ℕ → Type 0
-  HasContext x latest label = (isCase (class w x) || isComm (class w x)) ≡ false → (l : ℕ) × InContext w p b l x latest label
-
-  -- and hands on the latest declaration of its list
-  abbrev pub Latest : ℕ → ℕ → Type 0
-  Latest x latest = (isCase (class w x) || isComm (class w x)) ≡ false → (l : ℕ) → listOf w 0 x ≡ some l → latest ≡ word (latestIn w p b l (end w x))

@@ -1,11 +1,23 @@
--- What `refusal_of` found is the refusal of the call, with both as they were lent; a well-formed body has its sheet and bindings written.
+-- What `refusal_of` found is the refusal of the call, with both as they were lent; of a well-formed body `labels_of` answers.
 -- Assumes nothing.
-use mathlib.Core.Path.{sym, _∙_, ap}
+use mathlib.Core.Path.{_≡_, sym, _∙_, ap}
+use mathlib.Core.Option.{Option, none, some}
+use Prim.Native.Nat.{ℕ}
 use borrow.Author.Needs.{needs}
-use Rattle.body.specs.Given.{given}
+use Rattle.body.specs.Given.{returned, given as checked}
+use Rattle.body.specs.declared.Refusal.{Refusal}
+use Rattle.body.specs.declared.Checked.{Checked}
+use Rattle.body.specs.declared.Checked.the-variants.{Refused, WellFormed}
 use Rattle.label.proofs.CallRows.{call-refused}
 use Rattle.label.proofs.labels.Statement.{statement}
 use Rattle.label.proofs.labels.Tie as tie
+
+-- what was found, as the refusal
+well-formed : {o : Option (ℕ × ℕ)} {x : Checked} → checked x ≡ o → x ≡ WellFormed → o ≡ none
+well-formed e f = sym e ∙ ap (λ (y : Checked). checked y) f
+
+refused-as : {o : Option (ℕ × ℕ)} {x : Checked} {r : Refusal} → checked x ≡ o → x ≡ Refused r → some (returned r) ≡ o
+refused-as e f = sym (ap (λ (y : Checked). checked y) f) ∙ e
 
 refusal-of-requires : tie.Need-refusal-of-requires
 refusal-of-requires c κs = search needs
@@ -17,12 +29,10 @@ enum-told : tie.Need-enum-told
 enum-told c = search needs
 
 labels-of-requires : tie.Need-labels-of-requires
-labels-of-requires c κs =
-    let t = c .before .before in
-    sym (t .before .before .refusal-of .ensures) ∙ ap given (t .enum-told .given .1)
+labels-of-requires c κs = well-formed (c .before .before .before .before .refusal-of .ensures) (c .before .before .enum-told .given .1)
 
 returns : tie.Need-returns
-returns c = call-refused _ _ _ _ _ _ (sym (ap given (c .before .r .given .1)) ∙ c .before .before .before .refusal-of .ensures)
+returns c = call-refused _ _ _ _ _ _ (refused-as (c .before .before .before .refusal-of .ensures) (c .before .r .given .1))
 
 same-length : tie.Need-same-length
 same-length c = search needs

@@ -1,4 +1,4 @@
--- The two lengths are tested; then `faults` writes both.
+-- The two lengths are tested, and `faults` writes both.
 -- Assumes nothing.
 use mathlib.Core.Path.{sym}
 use borrow.Author.Needs.{needs}
@@ -17,21 +17,16 @@ returns-2 : tie.Need-returns-2
 returns-2 c = short-bindings _ _ _ _ _ (sym (c .before .before .before .before .before .before .before .pre)) (c .before .if1 .left) (c .if2 .taken)
 
 faults-requires : tie.Need-faults-requires
-faults-requires c κs =
-    let t = c .before .before in
-    (body _ _ _ (t .before .before .before .before .before .before .before .pre), (t .before .if1 .left, t .if2 .left))
+faults-requires c κs = (body _ _ _ (c .before .before .before .before .before .before .before .before .before .pre), (c .before .before .before .if1 .left, c .before .before .if2 .left))
 
 same-length : tie.Need-same-length
-same-length c = search needs
+same-length c = c .before .before .before .sheet .given
 
 same-length-2 : tie.Need-same-length-2
-same-length-2 c = search needs
+same-length-2 c = c .before .bindings .given
 
 returns-3 : tie.Need-returns-3
-returns-3 c =
-    let f = c .before .before .before .before in
-    let t = f .before .before .before in
-    call-answered _ _ _ _ _ (sym (t .before .before .before .before .before .before .before .pre)) _ _ _ (t .before .if1 .left) (t .if2 .left) (f .faults .ensures)
+returns-3 c = call-answered _ _ _ _ _ (sym (c .before .before .before .before .before .before .before .before .before .before .before .before .before .before .pre)) _ _ _ (c .before .before .before .before .before .before .before .before .if1 .left) (c .before .before .before .before .before .before .before .if2 .left) (c .before .before .before .before .faults .ensures)
 
 pub labels-of-spec : {M : Type 1} → statement M
 labels-of-spec =

@@ -1,0 +1,140 @@
+-- The tables of the lists as the code reads and writes them: `list` is the word of row x in the table of the lists, 1 + the row of its list.
+-- Assumes nothing.
+use mathlib.Core.Path.{_≡_, sym, _∙_, ap}
+use mathlib.Core.Bool.{true, false}
+use mathlib.Core.List.{List}
+use mathlib.Core.Option.{some}
+use Prim.Native.Nat.{ℕ, suc, _+_, _-_, _≤_, _<_}
+use native.Mathlib.Numerals.{add-one}
+use native.Mathlib.Omega.{arith}
+use lib.Dec.{eqb}
+use lib.ListN.{length, getD, set}
+use borrow.Author.Tests.{eq-eqb, ne-eqb}
+use Rattle.rules.specs.Rows.{rowCount, detail, name, size}
+use Rattle.rules.specs.Class.{declaration, labeled, class}
+use Rattle.rules.specs.Scope.{isBlock, listOf}
+use Rattle.rules.specs.Labels.{isClass, isLabel, latestDeclaration, word}
+use Rattle.rules.proofs.Test.{case-of, case-found, clash}
+use Rattle.rules.proofs.Found.{word-found}
+use Rattle.rules.proofs.Every.{is-one}
+use Rattle.tables.specs.Canon.{Tables}
+use Rattle.branches.specs.Walk.{latestIn, currentLabel}
+use Rattle.branches.proofs.CanonRows.{label-numbered, numbered-label}
+use Rattle.branches.proofs.TableRows.{canon-read}
+use Rattle.label.specs.Contexts.{latestLabel, ListTable, Listing, Contexts}
+use Rattle.label.proofs.ListRows.{list-before, InList, listing, block-word, in-list}
+use Rattle.label.proofs.CurrentLabel.{no-list, no-label, open-label, ended-label, found}
+use Rattle.label.proofs.ContextRows.{latests-kept, latests-set, labels-kept, labels-set, latest-declaration}
+
+-- ---- a Decl or Assign, whose detail v says whether it is a declaration
+module _ {w p b ls d : List ℕ} (t : Listing w p b ls) (x : ℕ) (h : x < rowCount w) (latests : ListTable w (latestIn w p b) x d)
+    (by-detail : eqb (detail w x) 1 ≡ isClass w declaration x) (v : ℕ) (ev : v ≡ detail w x) where
+  pub not-declared : (v ≡ 1 → ⊥) → ListTable w (latestIn w p b) (suc x) d
+  not-declared n = latests-kept w p b x d (sym by-detail ∙ ne-eqb (detail w x) 1 (λ i. n (ev ∙ i))) latests
+
+  module _ (i : v ≡ 1) (list : ℕ) (e : list ≡ getD ls x 0) where
+    declares : isClass w declaration x ≡ true
+    declares = sym by-detail ∙ eq-eqb (detail w x) 1 (sym ev ∙ i)
+
+    its-list : InList w x list
+    its-list = let c = is-one (class w x) declaration declares in in-list t x h list e (rw c) (λ j. clash (cc))
+
+    pub declared-list : (0 < list) × (list ≤ x) × (list - 1 < length d)
+    declared-list =
+        let j = its-list in
+        (j .some-row, j .before, omega (arith, j .some-row, j .before, latests .room))
+
+    pub declared : ListTable w (latestIn w p b) (suc x) (set d (list - 1) (x + 1))
+    declared =
+        let j = its-list in
+        let before = j .before in
+        rw (add-one x) (latests-set w p b x d (list - 1) declares (j .is-list) (omega arith) latests)
+
+-- ---- a Labeled row; n is its canonical number
+module _ {w p b cs ds ls d m : List ℕ} (t : Tables w p b cs ds ls) (x : ℕ) (h : x < rowCount w) (c : class w x ≡ labeled) (contexts : Contexts w p b x d m)
+    (n : ℕ) (en : n ≡ getD cs (name w x) 0) where
+  pub blank : n ≡ 0 → isLabel w p b 0 x ≡ false
+  blank z = case-of (isLabel w p b 0 x)
+      (λ u. absurd (omega (arith, label-numbered (t .body) x h u, canon-read t x n h en)))
+      (λ u. u)
+
+  pub unlabelled : n ≡ 0 → ListTable w (latestLabel w p b) (suc x) m
+  unlabelled z = labels-kept w p b x m (blank z) (contexts .labels-are)
+
+  module _ (z : n ≡ 0 → ⊥) (list : ℕ) (e : list ≡ getD ls x 0) where
+    pub labels : isLabel w p b 0 x ≡ true
+    labels = numbered-label (t .body) x h c (omega (arith, canon-read t x n h en))
+
+    label-in : InList w x list
+    label-in = in-list (listing t) x h list e (rw c) (λ j. clash (cc))
+
+    pub label-list : (0 < list) × (list ≤ x) × (list - 1 < length d) × (list - 1 < length m)
+    label-list =
+        let j = label-in in
+        let before = j .before in (
+          j .some-row,
+          j .before,
+          omega (arith, contexts .latests-are .room),
+          omega (arith, contexts .labels-are .room),
+        )
+
+    pub label-latest : (v : ℕ) → v ≡ getD d (list - 1) 0 → v ≡ word (latestDeclaration w p b 0 x)
+    label-latest v i =
+        let j = label-in in
+        let before = j .before in
+        i ∙ contexts .latests-are .at-list (list - 1) (omega arith) ∙ ap word (latest-declaration w p b x (list - 1) (j .is-list))
+
+    pub labelled : ListTable w (latestLabel w p b) (suc x) (set m (list - 1) (x + 1))
+    labelled =
+        let j = label-in in
+        let before = j .before in
+        rw (add-one x) (labels-set w p b x m (list - 1) labels (j .is-list) (omega arith) (contexts .labels-are))
+
+-- ---- a Block; `label` is the word of its list in the table of the labels, s the size of that label's statement
+module _ {w p b ls m : List ℕ} (t : Listing w p b ls) (x : ℕ) (h : x < rowCount w) (u : isBlock (class w x) ≡ true)
+    (labels : ListTable w (latestLabel w p b) x m) (list : ℕ) (e : list ≡ getD ls x 0) where
+  pub outside : list ≡ 0 → 0 ≡ word (currentLabel w p b x)
+  outside z = case-found (listOf w 0 x)
+      (λ l f. let i = e ∙ block-word t x h u ∙ ap word f in absurd (omega arith))
+      (λ f. sym (ap word (no-list (t .body) x f)))
+
+  module _ (n : list ≡ 0 → ⊥) where
+    block-in : listOf w 0 x ≡ some (list - 1)
+    block-in =
+        let i : suc (list - 1) ≡ list = omega arith in
+        word-found (listOf w 0 x) (list - 1) (sym (e ∙ block-word t x h u) ∙ sym i)
+
+    pub block-list : (0 < list) × (list ≤ x) × (list - 1 < length m)
+    block-list =
+        let before = list-before (t .body) x (list - 1) block-in .before in
+        (omega arith, omega arith, omega (arith, labels .room))
+
+    module _ (label : ℕ) (el : label ≡ getD m (list - 1) 0) where
+      label-word : label ≡ word (latestLabel w p b (list - 1) x)
+      label-word = let i = block-list in el ∙ labels .at-list (list - 1) (omega (arith, i .1))
+
+      pub unlabelled-block : label ≡ 0 → 0 ≡ word (currentLabel w p b x)
+      unlabelled-block z = case-found (latestLabel w p b (list - 1) x)
+          (λ l f. let i = label-word ∙ ap word f in absurd (omega arith))
+          (λ f. sym (ap word (no-label (t .body) x (list - 1) h block-in f)))
+
+      module _ (o : label ≡ 0 → ⊥) where
+        latest : latestLabel w p b (list - 1) x ≡ some (label - 1)
+        latest =
+            let i : suc (label - 1) ≡ label = omega arith in
+            word-found (latestLabel w p b (list - 1) x) (label - 1) (sym label-word ∙ sym i)
+
+        pub label-row : label - 1 < rowCount w
+        label-row = omega (arith, found (t .body) x (list - 1) h block-in (label - 1) latest .0)
+
+        module _ (s : ℕ) (es : s ≡ size w (label - 1)) where
+          pub label-fits : label - 1 + s ≤ 2000
+          label-fits = omega (arith, t .body .sized .within (label - 1) label-row, t .body .most-rows)
+
+          pub ended : label - 1 + s ≤ x → 0 ≡ word (currentLabel w p b x)
+          ended k = sym (ap word (ended-label (t .body) x (list - 1) h block-in (label - 1) latest (omega arith)))
+
+          pub current : x < label - 1 + s → label ≡ word (currentLabel w p b x)
+          current k =
+              let i = ap word (open-label (t .body) x (list - 1) h block-in (label - 1) latest (omega arith)) in
+              omega arith

@@ -1,0 +1,138 @@
+-- Each arm is one law of RowSteps.antt: what its call asks, and what the row leaves.
+-- Assumes nothing.
+use mathlib.Core.Path.{refl}
+use borrow.Author.Needs.{needs}
+use Rattle.label.proofs.RowSteps.{labeled-asks, labeled-gives, branch-asks, branch-gives, block-asks, block-gives, decl-asks, decl-gives, assign-asks, assign-gives, other-gives}
+use Rattle.label.proofs.walk.stmt_branches.Statement.{statement}
+use Rattle.label.proofs.walk.stmt_branches.Tie as tie
+
+kind-requires : tie.Need-kind-requires
+kind-requires c κs = search needs
+
+labeled-branches-requires : tie.Need-labeled-branches-requires
+labeled-branches-requires c κs =
+    let s = c .before .before .before .before .before .before .before .before .before .before .before .before .before .before .before .before .before .before .before .before in
+    labeled-asks (s .pre .0) _ (s .pre .1 .1 .1) (s .pre .1 .0) (s .pre .1 .1 .0) _ (c .before .before .before .before .before .before .before .kind .ensures) (c .before .before .before .before .before .before .match .keys1)
+
+same-length : tie.Need-same-length
+same-length c = c .before .before .before .before .before .before .before .sheet .given
+
+same-length-2 : tie.Need-same-length-2
+same-length-2 c = c .before .before .before .before .before .bindings .given
+
+same-length-3 : tie.Need-same-length-3
+same-length-3 c = c .before .before .before .heads .given
+
+same-length-4 : tie.Need-same-length-4
+same-length-4 c = refl
+
+same-length-5 : tie.Need-same-length-5
+same-length-5 c = refl
+
+same-length-6 : tie.Need-same-length-6
+same-length-6 c = c .before .labels .given
+
+returns : tie.Need-returns
+returns c =
+    let s = c .before .before .before .before .before .before .before .before .before .before .before .before .before .before .before .before .before .before .before .before .before .before .before .before .before .before .before .before .before in
+    labeled-gives (s .pre .0) _ (s .pre .1 .1 .1) (s .pre .1 .0) (s .pre .1 .1 .0) _ (c .before .before .before .before .before .before .before .before .before .before .before .before .before .before .before .before .kind .ensures) (c .before .before .before .before .before .before .before .before .before .before .before .before .before .before .before .match .keys1) (c .before .before .before .before .before .before .before .before .labeled-branches .ensures)
+
+jump-branches-requires : tie.Need-jump-branches-requires
+jump-branches-requires c κs =
+    let s = c .before .before .before .before .before .before .before .before .before .before .before .before .before .before .before .before .before .before in
+    branch-asks (s .pre .0) _ (s .pre .1 .1 .1) (s .pre .1 .0) (s .pre .1 .1 .0) _ (c .before .before .before .before .before .kind .ensures) (c .before .before .before .before .match .keys2)
+
+same-length-7 : tie.Need-same-length-7
+same-length-7 c = c .before .before .before .before .before .before .before .sheet2 .given
+
+same-length-8 : tie.Need-same-length-8
+same-length-8 c = c .before .before .before .before .before .bindings2 .given
+
+same-length-9 : tie.Need-same-length-9
+same-length-9 c = c .before .before .before .heads2 .given
+
+same-length-10 : tie.Need-same-length-10
+same-length-10 c = c .before .links .given
+
+returns-2 : tie.Need-returns-2
+returns-2 c =
+    let s = c .before .before .before .before .before .before .before .before .before .before .before .before .before .before .before .before .before .before .before .before .before .before .before .before .before .before .before in
+    branch-gives (s .pre .0) _ (s .pre .1 .1 .1) (s .pre .1 .0) (s .pre .1 .1 .0) _ (c .before .before .before .before .before .before .before .before .before .before .before .before .before .before .kind .ensures) (c .before .before .before .before .before .before .before .before .before .before .before .before .before .match .keys2) (c .before .before .before .before .before .before .before .before .jump-branches .ensures)
+
+block-branches-requires : tie.Need-block-branches-requires
+block-branches-requires c κs =
+    let s = c .before .before .before .before .before .before .before .before .before .before .before .before .before .before .before .before in
+    block-asks (s .pre .0) _ (s .pre .1 .1 .1) (s .pre .1 .0) (s .pre .1 .1 .0) _ (c .before .before .before .kind .ensures) (c .before .before .match .keys3)
+
+same-length-11 : tie.Need-same-length-11
+same-length-11 c = c .before .links2 .given
+
+same-length-12 : tie.Need-same-length-12
+same-length-12 c = refl
+
+returns-3 : tie.Need-returns-3
+returns-3 c =
+    let s = c .before .before .before .before .before .before .before .before .before .before .before .before .before .before .before .before .before .before .before in
+    block-gives (s .pre .0) _ (s .pre .1 .1 .1) (s .pre .1 .0) (s .pre .1 .1 .0) _ (c .before .before .before .before .before .before .kind .ensures) (c .before .before .before .before .before .match .keys3) (c .before .before .block-branches .ensures)
+
+record-var-decl-requires : tie.Need-record-var-decl-requires
+record-var-decl-requires c κs =
+    let s = c .before .before .before .before .before .before .before .before .before .before .before .before .before .before .before in
+    decl-asks (s .pre .0) _ (s .pre .1 .1 .1) (s .pre .1 .0) (s .pre .1 .1 .0) _ (c .before .before .kind .ensures) (c .before .match .keys4)
+
+same-length-13 : tie.Need-same-length-13
+same-length-13 c = c .before .latests .given
+
+returns-4 : tie.Need-returns-4
+returns-4 c =
+    let s = c .before .before .before .before .before .before .before .before .before .before .before .before .before .before .before .before .before .before in
+    decl-gives (s .pre .0) _ (s .pre .1 .1 .1) (s .pre .1 .0) (s .pre .1 .1 .0) _ (c .before .before .before .before .before .kind .ensures) (c .before .before .before .before .match .keys4) (c .before .before .record-var-decl .ensures)
+
+record-var-decl-requires-2 : tie.Need-record-var-decl-requires-2
+record-var-decl-requires-2 c κs =
+    let s = c .before .before .before .before .before .before .before .before .before .before .before .before .before .before .before in
+    assign-asks (s .pre .0) _ (s .pre .1 .1 .1) (s .pre .1 .0) (s .pre .1 .1 .0) _ (c .before .before .kind .ensures) (c .before .match .keys5)
+
+same-length-14 : tie.Need-same-length-14
+same-length-14 c = c .before .latests2 .given
+
+returns-5 : tie.Need-returns-5
+returns-5 c =
+    let s = c .before .before .before .before .before .before .before .before .before .before .before .before .before .before .before .before .before .before in
+    assign-gives (s .pre .0) _ (s .pre .1 .1 .1) (s .pre .1 .0) (s .pre .1 .1 .0) _ (c .before .before .before .before .before .kind .ensures) (c .before .before .before .before .match .keys5) (c .before .before .record-var-decl2 .ensures)
+
+returns-6 : tie.Need-returns-6
+returns-6 c =
+    let s = c .before .before .before .before .before .before .before .before .before .before .before .before .before .before in
+    other-gives (s .pre .0) _ (s .pre .1 .1 .1) (s .pre .1 .0) (s .pre .1 .1 .0) _ (c .before .kind .ensures) (c .match .rest)
+
+pub stmt-branches-spec : {M : Type 1} → statement M
+stmt-branches-spec =
+    tie.close
+    (tie.spec
+    kind-requires
+    labeled-branches-requires
+    same-length
+    same-length-2
+    same-length-3
+    same-length-4
+    same-length-5
+    same-length-6
+    returns
+    jump-branches-requires
+    same-length-7
+    same-length-8
+    same-length-9
+    same-length-10
+    returns-2
+    block-branches-requires
+    same-length-11
+    same-length-12
+    returns-3
+    record-var-decl-requires
+    same-length-13
+    returns-4
+    record-var-decl-requires-2
+    same-length-14
+    returns-5
+    returns-6)

@@ -1,0 +1,96 @@
+-- The walk begins at row 0 with nothing reported, bound or pending, and ends at the last row. What is pending then, and the labels that nothing used, complete
+-- the sheet.
+-- Assumes nothing.
+use mathlib.Core.Path.{_∙_}
+use Rattle.label.proofs.CallRows.{walk-requires, walked-end, unused-start, walked-answered}
+use Rattle.label.proofs.walk_body.Statement.{statement}
+use Rattle.label.proofs.walk_body.Tie as tie
+
+canon-table-requires : tie.Need-canon-table-requires
+canon-table-requires c κs =
+    let s = c .before .before .before .before .before .before .before .before .before .before .before .before .before .before in
+    (s .pre .0 .names, s .pre .1 .canons-room)
+
+declared-table-requires : tie.Need-declared-table-requires
+declared-table-requires c κs =
+    let s = c .before .before .before .before .before .before .before .before .before .before .before .before .before .before .before .before .before .before .before in
+    ((s .pre .0, c .before .before .before .before .canon-table .ensures), (s .pre .1 .declareds-room, s .pre .1 .declareds-zero))
+
+lists-of-requires : tie.Need-lists-of-requires
+lists-of-requires c κs =
+    let s = c .before .before .before .before .before .before .before .before .before .before .before .before .before .before .before .before .before .before .before .before .before .before .before in
+    ((s .pre .0 .sized, s .pre .0 .details, s .pre .0 .nested), (s .pre .0 .most-rows, s .pre .1 .lists-room))
+
+rows-branches-requires : tie.Need-rows-branches-requires
+rows-branches-requires c κs =
+    let s = c .before .before .before .before .before .before .before .before .before .before .before .before .before .before .before .before .before .before .before .before .before .before .before .before .before .before .before .before .before .before .before .before .before .before .before in
+    walk-requires (s .pre .0) _ _ _ _ _ _ _ _ _ _ _ _ _ (s .pre .1) (c .before .before .before .before .before .before .before .before .before .before .before .before .before .before .before .before .before .before .before .before .canon-table .ensures) (c .before .before .before .before .before .before .before .before .before .before .before .before .before .before .before .declared-table .ensures) (c .before .before .before .before .before .before .before .before .before .before .lists .given) (c .before .before .before .before .before .before .before .before .before .before .before .lists-of .ensures)
+
+unresolved-requires : tie.Need-unresolved-requires
+unresolved-requires c κs =
+    let s = c .before .before .before .before .before .before .before .before .before .before .before .before .before .before .before .before .before .before .before .before .before .before .before .before .before .before .before .before .before .before .before .before .before .before .before .before .before .before .before .before .before .before .before .before .before .before .before .before .before .before .before .before .before in
+    let a = walked-end (s .pre .0) _ _ _ _ _ _ _ (c .before .before .before .before .before .before .before .before .before .before .before .before .before .before .before .before .before .rows-branches .ensures) in
+    ((s .pre .0, c .before .before .before .before .before .before .before .before .before .before .before .before .before .before .before .before .before .before .before .before .before .before .before .before .before .before .before .before .before .before .before .before .before .before .before .before .before .before .canon-table .ensures, c .before .before .before .before .before .before .before .before .before .before .before .before .before .before .before .before .before .before .before .before .before .before .before .before .before .before .before .before .before .before .before .before .before .declared-table .ensures), (a, s .pre .1 .used-room, s .pre .1 .used-zero))
+
+unused-requires : tie.Need-unused-requires
+unused-requires c κs =
+    let s = c .before .before .before .before .before .before .before .before .before .before .before .before .before .before .before .before .before .before .before .before .before .before .before .before .before .before .before .before .before .before .before .before .before .before .before .before .before .before .before .before .before .before .before .before .before .before .before .before .before .before .before .before .before .before .before .before .before .before .before .before .before in
+    let a = walked-end (s .pre .0) _ _ _ _ _ _ _ (c .before .before .before .before .before .before .before .before .before .before .before .before .before .before .before .before .before .before .before .before .before .before .before .before .before .rows-branches .ensures) in
+    let e = c .before .before .before .before .before .before .before .unresolved .ensures in
+    ((s .pre .0, c .before .before .before .before .before .before .before .before .before .before .before .before .before .before .before .before .before .before .before .before .before .before .before .before .before .before .before .before .before .before .before .before .before .before .before .before .before .before .before .before .before .declared-table .ensures, e .1), unused-start _ _ _ _ _ a (e .0))
+
+same-length : tie.Need-same-length
+same-length c = c .before .before .before .before .before .before .before .before .before .before .before .before .before .before .before .before .before .before .before .before .before .before .before .before .before .before .before .before .before .before .before .before .before .before .before .before .before .before .before .before .before .before .before .before .before .before .before .before .canons .given
+
+same-length-2 : tie.Need-same-length-2
+same-length-2 c = c .before .before .before .before .before .before .before .before .before .before .before .before .before .before .before .before .before .before .before .before .before .before .before .before .before .before .before .before .before .before .before .before .before .before .before .before .before .before .before .before .before .before .before .declareds .given
+
+same-length-3 : tie.Need-same-length-3
+same-length-3 c = c .before .before .before .before .before .before .before .before .before .before .before .before .before .before .before .before .before .before .before .before .before .before .before .before .before .before .before .before .before .before .before .before .before .before .before .before .before .before .before .lists .given
+
+same-length-4 : tie.Need-same-length-4
+same-length-4 c = c .before .sheet3 .given ∙ c .before .before .before .before .before .before .before .before .before .sheet2 .given ∙ c .before .before .before .before .before .before .before .before .before .before .before .before .before .before .before .before .before .before .before .before .before .before .before .before .before .before .before .sheet .given
+
+same-length-5 : tie.Need-same-length-5
+same-length-5 c = c .before .before .before .before .before .before .before .before .before .before .before .before .before .before .before .before .before .before .before .before .before .before .before .before .before .bindings .given
+
+same-length-6 : tie.Need-same-length-6
+same-length-6 c = c .before .before .before .before .before .before .before .before .before .before .before .before .before .before .before .before .before .before .before .before .before .before .before .heads .given
+
+same-length-7 : tie.Need-same-length-7
+same-length-7 c = c .before .before .before .before .before .before .before .before .before .before .before .before .before .before .before .before .before .before .before .before .before .links .given
+
+same-length-8 : tie.Need-same-length-8
+same-length-8 c = c .before .before .before .before .before .before .before .before .before .before .before .before .before .before .before .before .before .before .before .latests .given
+
+same-length-9 : tie.Need-same-length-9
+same-length-9 c = c .before .before .before .before .before .before .before .before .before .before .before .before .before .before .before .before .before .labels .given
+
+same-length-10 : tie.Need-same-length-10
+same-length-10 c = c .before .before .before .before .before .before .before .used .given
+
+returns : tie.Need-returns
+returns c =
+    walked-answered (c .before .before .before .before .before .before .before .before .before .before .before .before .before .before .before .before .before .before .before .before .before .before .before .before .before .before .before .before .before .before .before .before .before .before .before .before .before .before .before .before .before .before .before .before .before .before .before .before .before .before .before .before .before .before .before .before .before .before .before .before .before .before .before .before .pre .0) _ _ _ _ _ _ _ _ _ _ _ (c .before .before .before .before .before .before .before .before .before .before .before .before .before .before .before .before .before .before .before .before .before .before .before .before .before .before .before .before .rows-branches .ensures) (c .before .before .before .before .before .before .before .before .before .before .unresolved .ensures .0) (c .before .before .unused .ensures)
+
+pub walk-body-spec : {M : Type 1} → statement M
+walk-body-spec =
+    tie.close
+    (tie.spec
+    canon-table-requires
+    declared-table-requires
+    lists-of-requires
+    rows-branches-requires
+    unresolved-requires
+    unused-requires
+    same-length
+    same-length-2
+    same-length-3
+    same-length-4
+    same-length-5
+    same-length-6
+    same-length-7
+    same-length-8
+    same-length-9
+    same-length-10
+    returns)

@@ -1,0 +1,36 @@
+-- What the walk keeps of each list when it stands at row x, as a function of x: the list's latest declaration and its latest label.
+-- Assumes nothing.
+use mathlib.Core.Path.{_≡_}
+use mathlib.Core.Bool.{_&&_}
+use mathlib.Core.List.{List}
+use mathlib.Core.Option.{Option}
+use Prim.Native.Nat.{ℕ, _≤_, _<_}
+use lib.ListN.{length, getD}
+use Rattle.rules.specs.Scan.{highest}
+use Rattle.rules.specs.Rows.{rowCount}
+use Rattle.rules.specs.Scope.{listOf}
+use Rattle.rules.specs.Body.{Body}
+use Rattle.rules.specs.Labels.{is, isLabel, word}
+use Rattle.lists.specs.Listed.{Listed}
+use Rattle.branches.specs.Walk.{latestIn}
+
+-- at the row of each list l: `latest l x`, 1 + its row, or 0
+pub record ListTable (w : List ℕ) (latest : ℕ → ℕ → Option ℕ) (x : ℕ) (table : List ℕ) : Type 0 where
+  pub room : rowCount w ≤ length table
+  pub at-list : (l : ℕ) → l < rowCount w → getD table l 0 ≡ word (latest l x)
+
+module _ (w p b : List ℕ) where
+  -- the latest label, not `_`, of the list l before row x
+  unfoldable pub latestLabel : ℕ → ℕ → Option ℕ
+  latestLabel l x = highest (λ t. isLabel w p b 0 t && is (listOf w 0 t) l) x
+
+  -- both tables at row x
+  pub record Contexts (x : ℕ) (latests labels : List ℕ) : Type 0 where
+    pub latests-are : ListTable w (latestIn w p b) x latests
+    pub labels-are : ListTable w latestLabel x labels
+
+  -- a well-formed body, and the list of each row
+  pub record Listing (lists : List ℕ) : Type 0 where
+    pub body : Body w p b
+    pub room : rowCount w ≤ length lists
+    pub listed : Listed w lists

@@ -1,0 +1,261 @@
+// The walk over the rows in order, which takes the state at each row to the state at the next. What
+// a row needs of its list stands in two tables by the list's row: the list's latest declaration and
+// its latest label so far, each 1 + its row, or 0.
+use rows::RowNumber;
+ghost use mathlib.Core.Path.{_≡_};
+ghost use mathlib.Core.Bool.{true};
+ghost use Prim.Native.Nat.{suc, _≤_, _<_};
+ghost use lib.Dec.{eqb};
+ghost use lib.ListN.{length, set};
+ghost use Rattle.rules.specs.Rows.{rowCount, detail};
+ghost use Rattle.rules.specs.Class.{declaration, labeled, class};
+ghost use Rattle.rules.specs.Scope.{isBlock};
+ghost use Rattle.rules.specs.Labels.{isClass, word};
+ghost use Rattle.tables.specs.Canon.{Tables};
+ghost use Rattle.branches.specs.Walk.{currentLabel, latestIn, Walking, Walked};
+ghost use Rattle.label.specs.Contexts.{latestLabel, ListTable, Listing, Contexts};
+
+fn wide(number: u16) -> usize
+    ensures { λ r. ⌜ r ≡ number ⌝ }
+{
+    number as usize
+}
+
+// A Decl or Assign: a VAR or := is the latest declaration of its list.
+fn record_var_decl(
+    rows: &[u32],
+    pairs: &[u32],
+    bytes: &[u8],
+    lists: &[u16],
+    latests: &mut [u16],
+    row: RowNumber,
+)
+    requires { ⌜ Listing (now rows) (now pairs) (now bytes) (now lists) ⌝ }
+    requires { ⌜ ListTable (now rows) (latestIn (now rows) (now pairs) (now bytes)) (row .0) (now latests) ⌝ }
+    requires { ⌜ (row .0 < rowCount (now rows)) × (eqb (detail (now rows) (row .0)) 1 ≡ isClass (now rows) declaration (row .0)) ⌝ }
+    ensures { λ _. ⌜ ListTable (now (rows .entry)) (latestIn (now (rows .entry)) (now (pairs .entry)) (now (bytes .entry))) (suc (row .0)) (now (latests .exit)) ⌝ }
+{
+    if rows::detail(rows, row) == 1 {
+        let r = row.0;
+        let list = wide(lists[r]);
+        latests[list - 1] = (r + 1) as u16;
+    }
+}
+
+// The label that a Block belongs to: the latest of its list, if the Block stands inside that
+// label's statement; else 0.
+fn current_label(
+    rows: &[u32],
+    pairs: &[u32],
+    bytes: &[u8],
+    lists: &[u16],
+    labels: &[u16],
+    row: RowNumber,
+) -> u16
+    requires { ⌜ Listing (now rows) (now pairs) (now bytes) (now lists) ⌝ }
+    requires { ⌜ ListTable (now rows) (latestLabel (now rows) (now pairs) (now bytes)) (row .0) (now labels) ⌝ }
+    requires { ⌜ (row .0 < rowCount (now rows)) × (isBlock (class (now rows) (row .0)) ≡ true) ⌝ }
+    ensures { λ r. ⌜ r ≡ word (currentLabel (now (rows .entry)) (now (pairs .entry)) (now (bytes .entry)) (row .0)) ⌝ }
+{
+    let r = row.0;
+    let list = wide(lists[r]);
+    if list == 0 {
+        return 0;
+    }
+    let label = labels[list - 1];
+    if label == 0 {
+        return 0;
+    }
+    let t = wide(label) - 1;
+    if t + rows::size(rows, RowNumber(t)) <= r {
+        return 0;
+    }
+    label
+}
+
+// A Block: its link is the label that it belongs to.
+fn block_branches(
+    rows: &[u32],
+    pairs: &[u32],
+    bytes: &[u8],
+    lists: &[u16],
+    labels: &[u16],
+    links: &mut [u16],
+    row: RowNumber,
+)
+    requires { ⌜ Listing (now rows) (now pairs) (now bytes) (now lists) ⌝ }
+    requires { ⌜ ListTable (now rows) (latestLabel (now rows) (now pairs) (now bytes)) (row .0) (now labels) ⌝ }
+    requires { ⌜ (row .0 < rowCount (now rows)) × (isBlock (class (now rows) (row .0)) ≡ true) × (rowCount (now rows) ≤ length (now links)) ⌝ }
+    ensures { λ _. ⌜ now (links .exit) ≡ set (now (links .entry)) (row .0) (word (currentLabel (now (rows .entry)) (now (pairs .entry)) (now (bytes .entry)) (row .0))) ⌝ }
+{
+    let r = row.0;
+    links[r] = current_label(rows, pairs, bytes, lists, labels, row);
+}
+
+// A Labeled row, the latest label of its list unless it is `_`. It answers the sheet's row count.
+fn labeled_branches(
+    rows: &[u32],
+    pairs: &[u32],
+    bytes: &[u8],
+    canons: &[u32],
+    declareds: &[u16],
+    lists: &[u16],
+    sheet: &mut [u32],
+    bindings: &mut [u32],
+    heads: &mut [u16],
+    links: &[u16],
+    latests: &[u16],
+    labels: &mut [u16],
+    row: RowNumber,
+    faults: usize,
+) -> usize
+    requires { ⌜ Tables (now rows) (now pairs) (now bytes) (now canons) (now declareds) (now lists) ⌝ }
+    requires { ⌜ Walking (now rows) (now pairs) (now bytes) (row .0) faults (now sheet) (now bindings) (now heads) (now links) ⌝ }
+    requires { ⌜ Contexts (now rows) (now pairs) (now bytes) (row .0) (now latests) (now labels) ⌝ }
+    requires { ⌜ (row .0 < rowCount (now rows)) × (class (now rows) (row .0) ≡ labeled) ⌝ }
+    ensures walked { λ r. ⌜ Walked (now (rows .entry)) (now (pairs .entry)) (now (bytes .entry)) (suc (row .0)) r (now (sheet .entry)) (now (bindings .entry)) (now (sheet .exit)) (now (bindings .exit)) (now (heads .exit)) (now (links .entry)) ⌝ }
+    ensures labels { λ _. ⌜ ListTable (now (rows .entry)) (latestLabel (now (rows .entry)) (now (pairs .entry)) (now (bytes .entry))) (suc (row .0)) (now (labels .exit)) ⌝ }
+{
+    if tables::canon_of(rows, canons, row) == 0 {
+        return faults;
+    }
+    let r = row.0;
+    let list = wide(lists[r]);
+    let latest = wide(latests[list - 1]);
+    labels[list - 1] = (r + 1) as u16;
+    branches::pending::label_branches(
+        rows,
+        pairs,
+        bytes,
+        canons,
+        declareds,
+        lists,
+        sheet,
+        bindings,
+        heads,
+        links,
+        row,
+        latest,
+        faults,
+    )
+}
+
+// One row. It answers the sheet's row count.
+fn stmt_branches(
+    rows: &[u32],
+    pairs: &[u32],
+    bytes: &[u8],
+    canons: &[u32],
+    declareds: &[u16],
+    lists: &[u16],
+    sheet: &mut [u32],
+    bindings: &mut [u32],
+    heads: &mut [u16],
+    links: &mut [u16],
+    latests: &mut [u16],
+    labels: &mut [u16],
+    row: RowNumber,
+    faults: usize,
+) -> usize
+    requires { ⌜ Tables (now rows) (now pairs) (now bytes) (now canons) (now declareds) (now lists) ⌝ }
+    requires { ⌜ Walking (now rows) (now pairs) (now bytes) (row .0) faults (now sheet) (now bindings) (now heads) (now links) ⌝ }
+    requires { ⌜ Contexts (now rows) (now pairs) (now bytes) (row .0) (now latests) (now labels) ⌝ }
+    requires { ⌜ row .0 < rowCount (now rows) ⌝ }
+    ensures walked { λ r. ⌜ Walked (now (rows .entry)) (now (pairs .entry)) (now (bytes .entry)) (suc (row .0)) r (now (sheet .entry)) (now (bindings .entry)) (now (sheet .exit)) (now (bindings .exit)) (now (heads .exit)) (now (links .exit)) ⌝ }
+    ensures contexts { λ _. ⌜ Contexts (now (rows .entry)) (now (pairs .entry)) (now (bytes .entry)) (suc (row .0)) (now (latests .exit)) (now (labels .exit)) ⌝ }
+{
+    match rows::kind(rows, row) {
+        3 => {
+            return labeled_branches(
+                rows,
+                pairs,
+                bytes,
+                canons,
+                declareds,
+                lists,
+                sheet,
+                bindings,
+                heads,
+                links,
+                latests,
+                labels,
+                row,
+                faults,
+            );
+        }
+        11 => {
+            return branches::jumps::jump_branches(
+                rows,
+                pairs,
+                bytes,
+                canons,
+                declareds,
+                lists,
+                sheet,
+                bindings,
+                heads,
+                links,
+                row,
+                faults,
+            );
+        }
+        12 => {
+            block_branches(rows, pairs, bytes, lists, labels, links, row);
+            return faults;
+        }
+        1 => {
+            record_var_decl(rows, pairs, bytes, lists, latests, row);
+            return faults;
+        }
+        7 => {
+            record_var_decl(rows, pairs, bytes, lists, latests, row);
+            return faults;
+        }
+        _ => faults,
+    }
+}
+
+// All rows in order. It answers the sheet's row count.
+pub fn rows_branches(
+    rows: &[u32],
+    pairs: &[u32],
+    bytes: &[u8],
+    canons: &[u32],
+    declareds: &[u16],
+    lists: &[u16],
+    sheet: &mut [u32],
+    bindings: &mut [u32],
+    heads: &mut [u16],
+    links: &mut [u16],
+    latests: &mut [u16],
+    labels: &mut [u16],
+) -> usize
+    requires { ⌜ Tables (now rows) (now pairs) (now bytes) (now canons) (now declareds) (now lists) ⌝ }
+    requires { ⌜ Walking (now rows) (now pairs) (now bytes) 0 0 (now sheet) (now bindings) (now heads) (now links) ⌝ }
+    requires { ⌜ Contexts (now rows) (now pairs) (now bytes) 0 (now latests) (now labels) ⌝ }
+    ensures { λ r. ⌜ Walked (now (rows .entry)) (now (pairs .entry)) (now (bytes .entry)) (rowCount (now (rows .entry))) r (now (sheet .entry)) (now (bindings .entry)) (now (sheet .exit)) (now (bindings .exit)) (now (heads .exit)) (now (links .exit)) ⌝ }
+{
+    let count = rows.len() / 5;
+    let mut faults = 0;
+    let mut r = 0;
+    while r < count {
+        faults = stmt_branches(
+            rows,
+            pairs,
+            bytes,
+            canons,
+            declareds,
+            lists,
+            sheet,
+            bindings,
+            heads,
+            links,
+            latests,
+            labels,
+            RowNumber(r),
+            faults,
+        );
+        r += 1;
+    }
+    faults
+}
