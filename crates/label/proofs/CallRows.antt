@@ -31,7 +31,7 @@ use Rattle.branches.proofs.WalkBindings.{each-length, each-at, bindings-zero, a
 use Rattle.branches.proofs.WalkPending.{waits}
 use Rattle.label.specs.Rest.{Reported, AtEnd, faultsLeft}
 use Rattle.label.specs.Contexts.{Contexts}
-use Rattle.label.specs.Answered.{NoName, Cleared, Lent, Answered}
+use Rattle.label.specs.Answered.{NoName, Cleared, Blank, Lent, Answered}
 use Rattle.label.proofs.ContextRows.{contexts-start}
 use Rattle.label.proofs.LeftRows.{branch-word, pair-most}
 use Rattle.label.proofs.LeftTurns.{drop-further}
@@ -161,30 +161,36 @@ unused-start n m s t s′ a x = (
 )
 
 -- ---- tables of 0, and bindings that were cleared
-pub lent-zeros : {w p b : List ℕ} → Body w p b → (m n : ℕ) (s t t′ : List ℕ) → 500 < m → 2000 ≤ n → rowCount w * 8 ≤ length s → rowCount w ≤ length t
-    → Cleared (rowCount w) t t′
-    → Lent w p (replicate m 0) (replicate m 0) (replicate n 0) s t′ (replicate m 0) (replicate n 0) (replicate n 0) (replicate n 0) (replicate m 0)
-lent-zeros {w} {p} body m n s t t′ h k r q c =
-    let names : pairCount p < length {A = ℕ} (replicate m 0) = omega (arith, length-replicate {A = ℕ} m 0, pair-most body) in
-    let rows : rowCount w ≤ length {A = ℕ} (replicate n 0) = omega (arith, length-replicate {A = ℕ} n 0, body .most-rows) in
+pub lent-zeros : {w p b : List ℕ} → Body w p b → (m n : ℕ) (s t : List ℕ) → pairCount p < m → rowCount w ≤ n → Blank w s t
+    → Lent w p (replicate m 0) (replicate m 0) (replicate n 0) s t (replicate m 0) (replicate n 0) (replicate n 0) (replicate n 0) (replicate m 0)
+lent-zeros {w} {p} body m n s t h k blank =
+    let names : pairCount p < length {A = ℕ} (replicate m 0) = omega (arith, length-replicate {A = ℕ} m 0) in
+    let rows : rowCount w ≤ length {A = ℕ} (replicate n 0) = omega (arith, length-replicate {A = ℕ} n 0) in
     record {
       canons-room = names;
       declareds-room = names;
       lists-room = rows;
-      sheet-room = r;
-      bindings-room = omega (arith, c .cleared-length);
+      sheet-room = blank .sheet-room;
+      bindings-room = blank .bindings-room;
       heads-room = names;
       links-room = rows;
       latests-room = rows;
       labels-room = rows;
       used-room = names;
       declareds-zero = zeros-at m;
-      bindings-zero = c .zeros;
+      bindings-zero = blank .bindings-zero;
       heads-zero = zeros-at m;
       latests-zero = zeros-at n;
       labels-zero = zeros-at n;
       used-zero = zeros-at m;
     }
+
+pub lent-large : {w p b : List ℕ} → Body w p b → (s t : List ℕ) → Blank w s t
+    → Lent w p (replicate 501 0) (replicate 501 0) (replicate 2000 0) s t (replicate 501 0) (replicate 2000 0) (replicate 2000 0) (replicate 2000 0) (replicate 501 0)
+lent-large body s t = lent-zeros body 501 2000 s t (omega (arith, pair-most body)) (body .most-rows)
+
+pub cleared-blank : (w s t t′ : List ℕ) → rowCount w * 8 ≤ length s → rowCount w ≤ length t → Cleared (rowCount w) t t′ → Blank w s t′
+cleared-blank w s t t′ h k c = record { sheet-room = h; bindings-room = omega (arith, c .cleared-length); bindings-zero = c .zeros }
 
 pub answered-from : {w p b : List ℕ} (n : ℕ) (s t t₁ s′ t′ : List ℕ) → Cleared (rowCount w) t t₁ → Answered w p b n s t₁ s′ t′ → Answered w p b n s t s′ t′
 answered-from n s t t₁ s′ t′ c x = record {

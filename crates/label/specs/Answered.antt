@@ -19,6 +19,12 @@ pub record Cleared (n : ℕ) (t t′ : List ℕ) : Type 0 where
   pub zeros : (g : ℕ) → g < n → getD t′ g 0 ≡ 0
   pub kept : drop n t′ ≡ drop n t
 
+-- room for the sheet and the bindings, and each row's binding is 0
+pub record Blank (w sheet bindings : List ℕ) : Type 0 where
+  pub sheet-room : rowCount w * 8 ≤ length sheet
+  pub bindings-room : rowCount w ≤ length bindings
+  pub bindings-zero : (g : ℕ) → g < rowCount w → getD bindings g 0 ≡ 0
+
 -- room for each table, and 0 where the walk starts from 0
 pub record Lent (w p canons declareds lists sheet bindings heads links latests labels used : List ℕ) : Type 0 where
   pub canons-room : pairCount p < length canons

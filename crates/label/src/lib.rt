@@ -11,14 +11,15 @@ use body::Refusal;
 use rows::RowNumber;
 ghost use mathlib.Core.Path.{_≡_};
 ghost use mathlib.Core.Bool.{true};
-ghost use Prim.Native.Nat.{_*_, _≤_};
+ghost use Prim.Native.Nat.{_*_, _≤_, _<_};
 ghost use lib.ListN.{length};
 ghost use Rattle.rules.specs.Rows.{rowCount};
+ghost use Rattle.rules.specs.Names.{pairCount};
 ghost use Rattle.rules.specs.Refusals.{WellFormed};
 ghost use Rattle.rules.specs.Body.{Body};
 ghost use Rattle.rules.specs.Calls.{labelCall};
 ghost use Rattle.label.specs.Given.{given};
-ghost use Rattle.label.specs.Answered.{NoName, Cleared, Lent, Answered};
+ghost use Rattle.label.specs.Answered.{NoName, Cleared, Blank, Lent, Answered};
 
 // The answer: the sheet's row count, or why there is none.
 pub enum LabelAnswer {
@@ -106,8 +107,8 @@ fn walk_body(
     rest::unused(rows, pairs, bytes, declareds, used, sheet, more)
 }
 
-// The sheet and the bindings of a well-formed body, with room for both.
-fn faults(
+// The walk over tables for 500 names and 2,000 rows, once the bindings are 0.
+fn walk_large(
     rows: &[u32],
     pairs: &[u32],
     bytes: &[u8],
@@ -115,13 +116,9 @@ fn faults(
     bindings: &mut [u32],
 ) -> usize
     requires { ⌜ Body (now rows) (now pairs) (now bytes) ⌝ }
-    requires { ⌜ (rowCount (now rows) * 8 ≤ length (now sheet)) × (rowCount (now rows) ≤ length (now bindings)) ⌝ }
+    requires { ⌜ Blank (now rows) (now sheet) (now bindings) ⌝ }
     ensures { λ r. ⌜ Answered (now (rows .entry)) (now (pairs .entry)) (now (bytes .entry)) r (now (sheet .entry)) (now (bindings .entry)) (now (sheet .exit)) (now (bindings .exit)) ⌝ }
 {
-    clear(bindings, rows.len() / 5);
-    if no_names(rows) {
-        return 0;
-    }
     let mut canons = [0u32; 501];
     let mut declareds = [0u16; 501];
     let mut heads = [0u16; 501];
@@ -145,6 +142,68 @@ fn faults(
         &mut labels,
         &mut used,
     )
+}
+
+// The same over tables for 31 names and 128 rows: most bodies are small, and tables cost time to make.
+fn walk_small(
+    rows: &[u32],
+    pairs: &[u32],
+    bytes: &[u8],
+    sheet: &mut [u32],
+    bindings: &mut [u32],
+) -> usize
+    requires { ⌜ Body (now rows) (now pairs) (now bytes) × (pairCount (now pairs) < 32) × (rowCount (now rows) ≤ 128) ⌝ }
+    requires { ⌜ Blank (now rows) (now sheet) (now bindings) ⌝ }
+    ensures { λ r. ⌜ Answered (now (rows .entry)) (now (pairs .entry)) (now (bytes .entry)) r (now (sheet .entry)) (now (bindings .entry)) (now (sheet .exit)) (now (bindings .exit)) ⌝ }
+{
+    let mut canons = [0u32; 32];
+    let mut declareds = [0u16; 32];
+    let mut heads = [0u16; 32];
+    let mut used = [0u8; 32];
+    let mut lists = [0u16; 128];
+    let mut links = [0u16; 128];
+    let mut latests = [0u16; 128];
+    let mut labels = [0u16; 128];
+    walk_body(
+        rows,
+        pairs,
+        bytes,
+        &mut canons,
+        &mut declareds,
+        &mut lists,
+        sheet,
+        bindings,
+        &mut heads,
+        &mut links,
+        &mut latests,
+        &mut labels,
+        &mut used,
+    )
+}
+
+// The sheet and the bindings of a well-formed body, with room for both.
+fn faults(
+    rows: &[u32],
+    pairs: &[u32],
+    bytes: &[u8],
+    sheet: &mut [u32],
+    bindings: &mut [u32],
+) -> usize
+    requires { ⌜ Body (now rows) (now pairs) (now bytes) ⌝ }
+    requires { ⌜ (rowCount (now rows) * 8 ≤ length (now sheet)) × (rowCount (now rows) ≤ length (now bindings)) ⌝ }
+    ensures { λ r. ⌜ Answered (now (rows .entry)) (now (pairs .entry)) (now (bytes .entry)) r (now (sheet .entry)) (now (bindings .entry)) (now (sheet .exit)) (now (bindings .exit)) ⌝ }
+{
+    clear(bindings, rows.len() / 5);
+    if no_names(rows) {
+        return 0;
+    }
+    if 128 < rows.len() / 5 {
+        return walk_large(rows, pairs, bytes, sheet, bindings);
+    }
+    if 31 < pairs.len() / 2 {
+        return walk_large(rows, pairs, bytes, sheet, bindings);
+    }
+    walk_small(rows, pairs, bytes, sheet, bindings)
 }
 
 // The sheet and the bindings of a well-formed body, unless one of the two is too short, with both as
