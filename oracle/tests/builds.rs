@@ -1,38 +1,8 @@
 //! Where document 01 says that stock and mended are equal, they are.
 
 use oracle::bodies::{every, random, Rng, Shape};
-use oracle::{branch, kind, mended, stock, Body};
-
-const BREAKABLE: [u32; 5] = [kind::SWITCH, kind::TYPE_SWITCH, kind::SELECT, kind::FOR, kind::RANGE];
-
-fn end(body: &Body, row: usize) -> usize {
-    row + body.rows[row][4] as usize
-}
-
-/// No labelled break or continue names the label of a statement already ended.
-fn same_labels(body: &Body) -> bool {
-    let labels = |name| {
-        let named = move |row: &usize| {
-            let [kind, _, _, number, _] = body.rows[*row];
-            kind == kind::LABELED && body.name(number) == name
-        };
-        (0..body.rows.len()).filter(named)
-    };
-    (0..body.rows.len()).all(|row| {
-        let [kind, detail, _, name, _] = body.rows[row];
-        let leaves = detail == branch::BREAK || detail == branch::CONTINUE;
-        !(kind == kind::BRANCH && leaves && name != 0)
-            || labels(body.name(name)).all(|label| end(body, label) > row)
-    })
-}
-
-/// No statement that a break can leave carries or holds a label.
-fn same_verdict(body: &Body) -> bool {
-    let labeled = |row: usize| body.rows[row][0] == kind::LABELED;
-    let breakable = |row: &usize| BREAKABLE.contains(&body.rows[*row][0]);
-    let mut rows = (0..body.rows.len()).filter(breakable);
-    rows.all(|row| !labeled(row - 1) && !(row..end(body, row)).any(labeled))
-}
+use oracle::domains::{same_labels, same_verdict};
+use oracle::{mended, stock, Body};
 
 #[derive(Default)]
 struct Counts {

@@ -9,6 +9,9 @@ pub struct Body {
     pub bytes: Vec<u8>,
 }
 
+/// Row words, pair words and name bytes, of a body or not.
+pub type Words = (Vec<u32>, Vec<u32>, Vec<u8>);
+
 /// What the label call and the verdict call give: sheet rows of code,
 /// position, name and other; one binding a row; and the verdict.
 #[derive(Clone, Debug, Default, PartialEq, Eq)]
@@ -19,6 +22,17 @@ pub struct Answer {
 }
 
 impl Body {
+    /// The body of words that aren't refused.
+    pub fn of_words((rows, pairs, bytes): &Words) -> Body {
+        let rows = rows.chunks_exact(5).map(|row| row.try_into().unwrap()).collect();
+        let pairs = pairs.chunks_exact(2).map(|pair| pair.try_into().unwrap()).collect();
+        Body { rows, pairs, bytes: bytes.clone() }
+    }
+
+    pub fn words(&self) -> Words {
+        (self.rows.concat(), self.pairs.concat(), self.bytes.clone())
+    }
+
     /// The bytes of a name number; none for 0 or a number past the last pair.
     pub fn name(&self, number: u32) -> &[u8] {
         match (number as usize).checked_sub(1).and_then(|i| self.pairs.get(i)) {

@@ -1,9 +1,7 @@
 //! Damaged copies of bodies, for the refusals.
 
 use super::Rng;
-use crate::{kind, Body};
-
-type Words = (Vec<u32>, Vec<u32>, Vec<u8>);
+use crate::{kind, Body, Words};
 
 const EDGES: [u32; 16] =
     [0, 1, 2, 3, 4, 5, 20, 21, 100, 500, 501, 2_000, 2_001, 1 << 31, u32::MAX - 1, u32::MAX];

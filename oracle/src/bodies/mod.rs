@@ -13,6 +13,7 @@ mod smallest;
 pub use damage::damage;
 pub use every::every;
 pub use limits::at_limits;
+pub use names::with_any_bytes;
 pub use people::people;
 pub use random::{random, Shape};
 pub use rng::Rng;

@@ -49,3 +49,13 @@ fn fresh(rng: &mut Rng, shape: &Shape, names: &[String]) -> String {
         }
     }
 }
+
+/// The body with other name bytes, UTF-8 or not; so few different ones that
+/// short names are often equal or `_`.
+pub fn with_any_bytes(rng: &mut Rng, mut body: Body) -> Body {
+    let few = rng.pick(&[2, 4, 8]);
+    for byte in &mut body.bytes {
+        *byte = rng.pick(&[b'_', 0xFF, 0x80, 0x00, 0x5E, 0x60, 0x7F, 0xC4][..few]);
+    }
+    body
+}

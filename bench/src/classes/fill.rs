@@ -1,0 +1,25 @@
+//! What the classes share: plain statements, names, order.
+
+use oracle::bodies::rows::{leaf, Rows};
+use oracle::bodies::Rng;
+use oracle::kind;
+
+/// Adds calls until the items and row 0 are `rows` rows.
+pub fn fill(items: &mut Vec<Rows>, rows: usize) {
+    let taken: usize = 1 + items.iter().map(Vec::len).sum::<usize>();
+    items.extend(vec![leaf(kind::EXPR, 0); rows - taken]);
+}
+
+/// Puts items in any order.
+pub fn shuffle<T>(rng: &mut Rng, items: &mut [T]) {
+    for i in (1..items.len()).rev() {
+        items.swap(i, rng.below(i + 1));
+    }
+}
+
+/// Names of 16 bytes that differ in their last three, in any order.
+pub fn names(rng: &mut Rng, count: usize) -> Vec<String> {
+    let mut names: Vec<String> = (0..count).map(|i| format!("label_of_a_na{i:03}")).collect();
+    shuffle(rng, &mut names);
+    names
+}

@@ -1,0 +1,54 @@
+-- The definitions on document 01's example, `{goto M;L:for{}}`, and on small files that are refused: each output, byte for byte, so that a wrong definition is
+-- seen here.
+-- Assumes nothing.
+use mathlib.Core.Path.{_≡_, refl}
+use mathlib.Core.List.{List, [], _∷_, _++_}
+use Prim.Native.Nat.{ℕ}
+use Rattle.rules.proofs.Computed.{computed}
+use Rattle.bodyfile.specs.File.{words, badFile}
+use Rattle.report.specs.Text.{decimal, refusedText, sheetText, bindsText, bodyText, marksText}
+
+-- words below 256 as bytes
+abbrev small : List ℕ → List ℕ
+small [] = []
+small (n ∷ ns) = n ∷ 0 ∷ 0 ∷ 0 ∷ small ns
+
+abbrev counts : List ℕ
+counts = small (5 ∷ 2 ∷ 2 ∷ [])
+
+abbrev rows : List ℕ
+rows = small (12 ∷ 0 ∷ 1 ∷ 0 ∷ 5 ∷ 11 ∷ 2 ∷ 7 ∷ 1 ∷ 1 ∷ 3 ∷ 0 ∷ 9 ∷ 2 ∷ 3 ∷ 19 ∷ 0 ∷ 11 ∷ 0 ∷ 2 ∷ 12 ∷ 0 ∷ 14 ∷ 0 ∷ 1 ∷ [])
+
+abbrev pairs : List ℕ
+pairs = small (0 ∷ 1 ∷ 1 ∷ 1 ∷ [])
+
+-- "sheet 2", "8 7 1 0", "9 9 2 0", "binds 1", "2 2", "placed yes", "verdict yes"
+abbrev printed : List ℕ
+printed =
+    (115 ∷ 104 ∷ 101 ∷ 101 ∷ 116 ∷ 32 ∷ 50 ∷ 10 ∷ [])
+    ++ (56 ∷ 32 ∷ 55 ∷ 32 ∷ 49 ∷ 32 ∷ 48 ∷ 10 ∷ [])
+    ++ (57 ∷ 32 ∷ 57 ∷ 32 ∷ 50 ∷ 32 ∷ 48 ∷ 10 ∷ [])
+    ++ (98 ∷ 105 ∷ 110 ∷ 100 ∷ 115 ∷ 32 ∷ 49 ∷ 10 ∷ [])
+    ++ (50 ∷ 32 ∷ 50 ∷ 10 ∷ [])
+    ++ (112 ∷ 108 ∷ 97 ∷ 99 ∷ 101 ∷ 100 ∷ 32 ∷ 121 ∷ 101 ∷ 115 ∷ 10 ∷ [])
+    ++ (118 ∷ 101 ∷ 114 ∷ 100 ∷ 105 ∷ 99 ∷ 116 ∷ 32 ∷ 121 ∷ 101 ∷ 115 ∷ 10 ∷ [])
+
+pub example : marksText (counts ++ rows ++ pairs ++ (77 ∷ 76 ∷ [])) ≡ printed
+unfolding computed words badFile decimal sheetText bindsText bodyText marksText
+example = refl
+
+-- "refused 0 0", "refused 1 0"
+abbrev refused : ℕ → List ℕ
+refused digit = 114 ∷ 101 ∷ 102 ∷ 117 ∷ 115 ∷ 101 ∷ 100 ∷ 32 ∷ digit ∷ 32 ∷ 48 ∷ 10 ∷ []
+
+-- no header, a byte too few, no rows
+pub refusals : (marksText [] ≡ refused 48)
+    × (marksText (counts ++ rows ++ pairs ++ (77 ∷ [])) ≡ refused 48)
+    × (marksText (small (0 ∷ 0 ∷ 0 ∷ [])) ≡ refused 49)
+unfolding computed words badFile decimal sheetText bindsText bodyText marksText
+refusals = (refl, refl, refl)
+
+-- numbers of one digit and of more
+pub numbers : (decimal 0 ≡ 48 ∷ []) × (decimal 9 ≡ 57 ∷ []) × (decimal 10 ≡ 49 ∷ 48 ∷ []) × (decimal 4294967295 ≡ 52 ∷ 50 ∷ 57 ∷ 52 ∷ 57 ∷ 54 ∷ 55 ∷ 50 ∷ 57 ∷ 53 ∷ [])
+unfolding computed decimal
+numbers = (refl, refl, refl, refl)

@@ -1,0 +1,123 @@
+-- The file's first bytes decide: its header is the whole file's, so that the counts and the length it says are; and where the counts are within their limits
+-- and the length is the one it says, the first bytes are the whole file.
+-- Assumes nothing.
+use mathlib.Core.Path.{_≡_, refl, sym, _∙_, ap}
+use mathlib.Core.Bool.{Bool, true, false, _||_, not}
+use mathlib.Core.List.{List}
+use Prim.Native.Nat.{ℕ, _+_, _*_, _≤_, _<_}
+use native.Mathlib.Omega.{arith}
+use native.Mathlib.Decide.{decLt, ℕ-discrete}
+use lib.Dec.{ltb, eqb}
+use lib.ListN.{length, getD, take, drop, length-take, length-drop}
+use lib.Seq.{getD-take, take-all}
+use borrow.Author.Tests.{ltb-true, ltb-false, eqb-true, lt-ltb, le-ltb, eq-eqb, ne-eqb, not-false}
+use Rattle.rules.proofs.Test.{or-false}
+use Rattle.bodyfile.specs.File.{word, rows, names, bytes, rowWords, pairWords, nameBytes, badFile}
+use Rattle.report.specs.Text.{refusedText, bodyText, marksText}
+use Rattle.report.specs.Limits.{said, badStart, countRefusal, Within}
+use Rattle.report.proofs.Counts.{within, counts-refused}
+
+-- ---- the output
+marks-bad : (f : List ℕ) → badFile f ≡ true → refusedText 0 0 ≡ marksText f
+unfolding marksText
+marks-bad f e = rw (e, marksText)
+
+marks-body : (f : List ℕ) → badFile f ≡ false → bodyText (rowWords f) (pairWords f) (nameBytes f) ≡ marksText f
+unfolding marksText
+marks-body f e = rw (e, marksText)
+
+eqb-sym : (a b : ℕ) → eqb a b ≡ eqb b a
+eqb-sym a b = elim (ℕ-discrete a b) [ yes e ↦ eq-eqb a b e ∙ sym (eq-eqb b a (sym e)) | no n ↦ ne-eqb a b n ∙ sym (ne-eqb b a (λ e. n (sym e))) ]
+
+-- ---- a start that passes
+pub start-passes : (file : List ℕ) (n : ℕ) → badStart file n ≡ false → (12 ≤ length file) × (n ≡ said file)
+unfolding badStart
+start-passes file n e =
+    let o = or-false (ltb (length file) 12) (not (eqb n (said file))) e in
+    (ltb-false (length file) 12 (o .0), eqb-true n (said file) (not-false (eqb n (said file)) (o .1)))
+
+-- the code's two tests
+pub start-short : (file : List ℕ) (n : ℕ) → length file < 12 → true ≡ badStart file n
+unfolding badStart
+start-short file n h = rw (lt-ltb (length file) 12 h, badStart)
+
+pub start-length : (file : List ℕ) (n k : ℕ) → 12 ≤ length file → k ≡ said file → not (eqb k n) ≡ badStart file n
+unfolding badStart
+start-length file n k h e = rw (le-ltb (length file) 12 h, badStart) (ap not (eqb-sym k n ∙ ap (eqb n) e))
+
+abbrev byCounts : ℕ → ℕ → ℕ → ℕ
+byCounts r n b = elim (eqb r 0 || ltb 2000 r) [ true ↦ 1 | false ↦ elim (ltb 500 n || ltb 8000 b) [ true ↦ 2 | false ↦ 0 ] ]
+
+-- the first m bytes of f
+module _ (f : List ℕ) (m : ℕ) (long : 12 ≤ m) where
+  word-same : (i : ℕ) → i + 4 ≤ 12 → word (take m f) i ≡ word f i
+  word-same i h = rw (
+    getD-take m f i 0 (omega arith),
+    getD-take m f (i + 1) 0 (omega arith),
+    getD-take m f (i + 2) 0 (omega arith),
+    getD-take m f (i + 3) 0 (omega arith),
+  )
+
+  rows-same : rows (take m f) ≡ rows f
+  rows-same = word-same 0 (omega arith)
+
+  names-same : names (take m f) ≡ names f
+  names-same = word-same 4 (omega arith)
+
+  bytes-same : bytes (take m f) ≡ bytes f
+  bytes-same = word-same 8 (omega arith)
+
+  short-same : ltb (length (take m f)) 12 ≡ ltb (length f) 12
+  short-same = elim (decLt (length f) 12) [
+    | yes h ↦ lt-ltb (length (take m f)) 12 (omega (arith, length-take m f)) ∙ sym (lt-ltb (length f) 12 h)
+    | no h ↦ le-ltb (length (take m f)) 12 (omega (arith, length-take m f)) ∙ sym (le-ltb (length f) 12 (omega arith))
+  ]
+
+  said-same : said (take m f) ≡ said f
+  said-same = omega (arith, rows-same, names-same, bytes-same)
+
+  start-same : badStart (take m f) (length f) ≡ badFile f
+  unfolding badStart badFile
+  start-same =
+      ap (λ (t : Bool). t || not (eqb (length f) (said (take m f)))) short-same
+      ∙ ap (λ (k : ℕ). ltb (length f) 12 || not (eqb (length f) k)) said-same
+
+  counts-same : countRefusal (take m f) ≡ countRefusal f
+  unfolding countRefusal
+  counts-same =
+      ap (λ (r : ℕ). byCounts r (names (take m f)) (bytes (take m f))) rows-same
+      ∙ ap (λ (n : ℕ). byCounts (rows f) n (bytes (take m f))) names-same
+      ∙ ap (byCounts (rows f) (names f)) bytes-same
+
+  -- ---- by what the code has found of the first bytes
+  module _ (file : List ℕ) (n : ℕ) (l : length f ≡ n) (e : file ≡ take m f) where
+    bad-is : badStart file n ≡ badFile f
+    bad-is = ap (λ (x : List ℕ). badStart x n) e ∙ ap (badStart (take m f)) (sym l) ∙ start-same
+
+    pub prints-bad : badStart file n ≡ true → refusedText 0 0 ≡ marksText f
+    prints-bad t = marks-bad f (sym bad-is ∙ t)
+
+    module _ (t : badStart file n ≡ false) where
+      passes : badFile f ≡ false
+      passes = sym bad-is ∙ t
+
+      length-said : length f ≡ said f
+      length-said = l ∙ start-passes file n t .1 ∙ ap said e ∙ said-same
+
+      pub prints-counts : (k : ℕ) → k ≡ countRefusal file → (k ≡ 0 → ⊥) → refusedText k 0 ≡ marksText f
+      prints-counts k q z = counts-refused f k length-said (q ∙ ap countRefusal e ∙ counts-same) z ∙ marks-body f passes
+
+      module _ (c : 0 ≡ countRefusal file) (all : 52012 ≤ m) where
+        most : length f ≤ m
+        most =
+            let x = within f (sym (c ∙ ap countRefusal e ∙ counts-same)) in
+            omega (arith, length-said, x .most-rows, x .most-names, x .most-bytes)
+
+        whole : file ≡ f
+        whole = e ∙ take-all m f most
+
+        pub never-short : (length file ≡ n → ⊥) → ⊥
+        never-short z = z (ap length whole ∙ l)
+
+        pub prints-whole : bodyText (rowWords file) (pairWords file) (nameBytes file) ≡ marksText f
+        prints-whole = ap (λ (x : List ℕ). bodyText (rowWords x) (pairWords x) (nameBytes x)) whole ∙ marks-body f passes

@@ -1,0 +1,9 @@
+pub mod Decimals
+pub mod Writing
+pub mod Parts
+pub mod SheetLines
+pub mod Marked
+pub mod Counts
+pub mod Files
+pub mod Decoded
+pub mod Example

@@ -1,0 +1,145 @@
+-- The output of a body from the answer of the call that marks it: where the lent sheet and bindings have room for 2,000 rows, the call refuses what document 01
+-- refuses, and else its count, place and verdict, the sheet's first words and the bindings' are those of the definitions.
+-- Assumes nothing.
+use mathlib.Core.Path.{_≡_, refl, sym, _∙_, ap}
+use mathlib.Core.Bool.{Bool, true, false}
+use mathlib.Core.List.{List, [], _∷_, _++_}
+use mathlib.Core.Option.{Option, none, some}
+use Prim.Native.Nat.{ℕ, _+_, _*_, _/_, _≤_}
+use native.Mathlib.Omega.{arith}
+use lib.ListN.{length, take, drop, replicate, length-append, length-replicate}
+use lib.Seq.{take-at}
+use borrow.Author.Tests.{le-ltb}
+use Rattle.rules.specs.Rows.{rowCount, end}
+use Rattle.rules.specs.Refusals.{refusal}
+use Rattle.rules.specs.Labels.{binding, sheet, bindings}
+use Rattle.rules.specs.Placing.{placing}
+use Rattle.rules.specs.Verdict.{verdict}
+use Rattle.rules.specs.Calls.{Answer, refused, answered, faultWords, tooShort, labelCall, placingCall, verdictCall}
+use Rattle.rules.proofs.Facts.{body}
+use Rattle.rules.proofs.Test.{clash}
+use Rattle.branches.proofs.CanonRows.{body-end}
+use Rattle.branches.proofs.WalkFaults.{words-length}
+use Rattle.branches.proofs.WalkBindings.{each-length}
+use Rattle.marking.specs.Marks.{together, marksCall}
+use Rattle.report.specs.Text.{refusedText, sheetText, bindsText, placedText, verdictText, bodyText}
+use Rattle.report.specs.Lines.{sheetLines}
+use Rattle.report.proofs.SheetLines.{sheet-lines}
+
+-- an answer's parts
+abbrev Marks : Type 0
+Marks = Answer (ℕ × Option ℕ × Bool)
+
+abbrev isAnswered : Marks → ℕ
+isAnswered (refused n i) = 0
+isAnswered (answered x) = 1
+
+abbrev number : Marks → ℕ
+number (refused n i) = n
+number (answered x) = 0
+
+abbrev index : Marks → ℕ
+index (refused n i) = i
+index (answered x) = 0
+
+abbrev value : Marks → ℕ × Option ℕ × Bool
+value (refused n i) = (0, none, false)
+value (answered x) = x
+
+module _ (w p b : List ℕ) where
+  -- ---- the output
+  pub text-refused : (r : ℕ × ℕ) → refusal w p b ≡ some r → refusedText (r .0) (r .1) ≡ bodyText w p b
+  unfolding bodyText
+  text-refused r e = rw (e, bodyText)
+
+  text-marked : refusal w p b ≡ none
+      → sheetText (sheet w p b 0) ++ bindsText (bindings w p b 0) ++ placedText (placing w 0) ++ verdictText (verdict w p b 0) ≡ bodyText w p b
+  unfolding bodyText
+  text-marked e = rw (e, bodyText)
+
+  -- a word a row
+  bindings-length : refusal w p b ≡ none → length (bindings w p b 0) ≡ length w / 5
+  unfolding bindings
+  bindings-length e = each-length (binding w p b 0) (end w 0) ∙ body-end (body w p b e)
+
+  -- ---- the call
+  module _ (s t : List ℕ) where
+    call-refused : (r : ℕ × ℕ) → refusal w p b ≡ some r → marksCall w p b s t ≡ refused (r .0) (r .1)
+    unfolding marksCall labelCall
+    call-refused r e = rw (marksCall, labelCall, e)
+
+    module _ (e : refusal w p b ≡ none) (room : tooShort w s t ≡ false) where
+      call-answered : marksCall w p b s t ≡ answered (length (sheet w p b 0), placing w 0, verdict w p b 0)
+      unfolding marksCall labelCall placingCall verdictCall
+      call-answered = rw (marksCall, labelCall, placingCall, verdictCall, e, room)
+
+      call-sheet : labelCall w p b s t .sheet-words ≡ faultWords (sheet w p b 0) ++ drop (length (faultWords (sheet w p b 0))) s
+      unfolding labelCall
+      call-sheet = rw (labelCall, e, room)
+
+      call-bindings : labelCall w p b s t .binding-words ≡ bindings w p b 0 ++ drop (length (bindings w p b 0)) t
+      unfolding labelCall
+      call-bindings = rw (labelCall, e, room)
+
+    -- what the call answers is what is printed
+    module _ (room : tooShort w s t ≡ false) where
+      refused-as : (n i : ℕ) → refused n i ≡ marksCall w p b s t → (o : Option (ℕ × ℕ)) → refusal w p b ≡ o → refusedText n i ≡ bodyText w p b
+      refused-as n i e (some r) q =
+          let g : refused n i ≡ refused (r .0) (r .1) = e ∙ call-refused r q in
+          ap (λ (k : ℕ). refusedText k i) (ap number g) ∙ ap (refusedText (r .0)) (ap index g) ∙ text-refused r q
+      refused-as n i e none q = absurd (clash (ap isAnswered (e ∙ call-answered q room)))
+
+      pub refused-text : (n i : ℕ) → refused n i ≡ marksCall w p b s t → refusedText n i ≡ bodyText w p b
+      refused-text n i e = refused-as n i e (refusal w p b) refl
+
+      module _ (n : ℕ) (o : Option ℕ) (v : Bool) (e : answered (n, o, v) ≡ marksCall w p b s t) where
+        none-refused : (x : Option (ℕ × ℕ)) → refusal w p b ≡ x → refusal w p b ≡ none
+        none-refused (some r) q = absurd (clash (sym (ap isAnswered (e ∙ call-refused r q))))
+        none-refused none q = q
+
+        pub accepted : refusal w p b ≡ none
+        accepted = none-refused (refusal w p b) refl
+
+        same : _≡_ {A = ℕ × Option ℕ × Bool} (n, o, v) (length (sheet w p b 0), placing w 0, verdict w p b 0)
+        same = ap value (e ∙ call-answered accepted room)
+
+        pub count-is : n ≡ length (sheet w p b 0)
+        count-is = ap (λ (x : ℕ × Option ℕ × Bool). x .0) same
+
+        module _ (s′ t′ : List ℕ) (f : s′ ≡ labelCall w p b s t .sheet-words) (g : t′ ≡ labelCall w p b s t .binding-words) where
+          sheet-is : sheetLines s′ n ≡ sheetText (sheet w p b 0)
+          sheet-is =
+              ap (λ (l : List ℕ). sheetLines l n) (f ∙ call-sheet accepted room)
+              ∙ ap (sheetLines (faultWords (sheet w p b 0) ++ drop (length (faultWords (sheet w p b 0))) s)) count-is
+              ∙ sheet-lines (sheet w p b 0) (drop (length (faultWords (sheet w p b 0))) s)
+
+          bindings-are : take (length w / 5) t′ ≡ bindings w p b 0
+          bindings-are =
+              ap (take (length w / 5)) (g ∙ call-bindings accepted room)
+              ∙ take-at (bindings w p b 0) (drop (length (bindings w p b 0)) t) (length w / 5) (bindings-length accepted)
+
+          pub marked-text : sheetLines s′ n ++ bindsText (take (length w / 5) t′) ++ placedText o ++ verdictText v ≡ bodyText w p b
+          marked-text =
+              ap (λ (l : List ℕ). l ++ bindsText (take (length w / 5) t′) ++ placedText o ++ verdictText v) sheet-is
+              ∙ ap (λ (l : List ℕ). sheetText (sheet w p b 0) ++ bindsText l ++ placedText o ++ verdictText v) bindings-are
+              ∙ ap (λ (x : ℕ × Option ℕ × Bool). sheetText (sheet w p b 0) ++ bindsText (bindings w p b 0) ++ placedText (x .1) ++ verdictText (x .2)) same
+              ∙ text-marked accepted
+
+          -- the lent words hold the sheet
+          pub marked-room : n * 4 ≤ length s′
+          marked-room = omega (
+            arith,
+            count-is,
+            words-length (sheet w p b 0),
+            ap length (f ∙ call-sheet accepted room),
+            length-append (faultWords (sheet w p b 0)) (drop (length (faultWords (sheet w p b 0))) s),
+          )
+
+-- ---- lent words that are 0, with room for 2,000 rows
+pub enough : (w : List ℕ) (m n : ℕ) → length w ≤ 10000 → 16000 ≤ m → 2000 ≤ n → tooShort w (replicate m 0) (replicate n 0) ≡ false
+unfolding tooShort
+enough w m n h k l = rw (
+  le-ltb (length {A = ℕ} (replicate m 0)) (rowCount w * 8) (omega (arith, length-replicate {A = ℕ} m 0)),
+  le-ltb (length {A = ℕ} (replicate n 0)) (rowCount w) (omega (arith, length-replicate {A = ℕ} n 0)),
+  tooShort,
+)

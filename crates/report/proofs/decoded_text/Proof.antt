@@ -1,0 +1,143 @@
+-- The words of the file's rows and names are read into the first parts of the two slices, and the name bytes are the file's last part.
+-- Assumes nothing.
+use mathlib.Core.Path.{_≡_, refl, sym, _∙_}
+use Prim.Native.Nat.{_*_, _≤_}
+use native.Mathlib.Omega.{arith}
+use lib.ListN.{length}
+use lib.Seq.{length-take-le}
+use Rattle.report.proofs.Decoded.{words-read, words-count, take-most, parts}
+use borrow.Author.Needs.{needs}
+use Rattle.report.proofs.decoded_text.Statement.{statement}
+use Rattle.report.proofs.decoded_text.Tie as tie
+
+word-requires : tie.Need-word-requires
+word-requires c κs = search needs
+
+cast-rows : tie.Need-cast-rows
+cast-rows c = search needs
+
+mul-rows : tie.Need-mul-rows
+mul-rows c = search needs
+
+word-requires-2 : tie.Need-word-requires-2
+word-requires-2 c κs = search needs
+
+cast-pairs : tie.Need-cast-pairs
+cast-pairs c = search needs
+
+mul-pairs : tie.Need-mul-pairs
+mul-pairs c = search needs
+
+mul-pairs-from : tie.Need-mul-pairs-from
+mul-pairs-from c = search needs
+
+add-pairs-from : tie.Need-add-pairs-from
+add-pairs-from c = search needs
+
+mul-bytes-from : tie.Need-mul-bytes-from
+mul-bytes-from c = search needs
+
+add-bytes-from : tie.Need-add-bytes-from
+add-bytes-from c = search needs
+
+slice-relend-prefix-words : tie.Need-slice-relend-prefix-words
+slice-relend-prefix-words c = search needs
+
+slice-aggregate-words : tie.Need-slice-aggregate-words
+slice-aggregate-words c = sym (length-take-le _ _ (omega (arith, c .before .before .word .ensures, c .before .before .before .before .before .before .before .pre .0 .most-rows)))
+
+words-requires : tie.Need-words-requires
+words-requires c κs =
+    omega (arith, c .before .before .word .ensures, c .before .before .before .before .before .before .before .pre .1 .0, length-take-le (c .before .before .word .result * 5) (c .before .before .before .before .before .before .before .args .row-words .now) (omega (arith, c .before .before .word .ensures, c .before .before .before .before .before .before .before .pre .0 .most-rows)))
+
+slice-relend-prefix-words-2 : tie.Need-slice-relend-prefix-words-2
+slice-relend-prefix-words-2 c = search needs
+
+slice-aggregate-words-2 : tie.Need-slice-aggregate-words-2
+slice-aggregate-words-2 c = sym (length-take-le _ _ (omega (arith, c .before .before .before .before .before .word2 .ensures, c .before .before .before .before .before .before .before .before .before .before .before .pre .0 .most-names)))
+
+words-requires-2 : tie.Need-words-requires-2
+words-requires-2 c κs =
+    omega (
+      arith,
+      c .before .before .before .before .before .before .word .ensures,
+      c .before .before .before .before .before .word2 .ensures,
+      c .before .before .before .before .before .before .before .before .before .before .before .pre .1 .0,
+      length-take-le (c .before .before .before .before .before .word2 .result * 2) (c .before .before .before .before .before .before .before .before .before .before .before .args .pair-words .now) (omega (arith, c .before .before .before .before .before .word2 .ensures, c .before .before .before .before .before .before .before .before .before .before .before .pre .0 .most-names)),
+    )
+
+slice-reshare-prefix-body-text : tie.Need-slice-reshare-prefix-body-text
+slice-reshare-prefix-body-text c = search needs
+
+slice-aggregate-body-text : tie.Need-slice-aggregate-body-text
+slice-aggregate-body-text c = words-count _ _ _ _ _ _ (omega (arith, c .before .before .before .before .before .before .before .before .before .before .word .ensures, c .before .before .before .before .before .before .before .before .before .before .before .before .before .before .before .pre .0 .most-rows)) (c .before .before .before .before .before .before .before .words .ensures)
+
+slice-reshare-prefix-body-text-2 : tie.Need-slice-reshare-prefix-body-text-2
+slice-reshare-prefix-body-text-2 c = search needs
+
+slice-aggregate-body-text-2 : tie.Need-slice-aggregate-body-text-2
+slice-aggregate-body-text-2 c = words-count _ _ _ _ _ _ (omega (arith, c .before .before .before .before .before .before .before .before .before .before .word2 .ensures, c .before .before .before .before .before .before .before .before .before .before .before .before .before .before .before .before .pre .0 .most-names)) (c .before .before .before .before .words2 .ensures)
+
+sub-body-text : tie.Need-sub-body-text
+sub-body-text c = search needs
+
+part-body-text-start : tie.Need-part-body-text-start
+part-body-text-start c = search needs
+
+part-body-text-end : tie.Need-part-body-text-end
+part-body-text-end c = search needs
+
+body-text-requires : tie.Need-body-text-requires
+body-text-requires c κs =
+    let h : c .before .before .before .before .before .before .before .before .before .before .before .before .before .word .result * 5 ≤ 10000 = omega (arith, c .before .before .before .before .before .before .before .before .before .before .before .before .before .word .ensures, c .before .before .before .before .before .before .before .before .before .before .before .before .before .before .before .before .before .before .pre .0 .most-rows) in
+    (take-most _ _ _ h, omega arith)
+
+same-length : tie.Need-same-length
+same-length c = search needs
+
+same-length-2 : tie.Need-same-length-2
+same-length-2 c = search needs
+
+same-length-3 : tie.Need-same-length-3
+same-length-3 c = search needs
+
+returns : tie.Need-returns
+returns c =
+    let t = c .before .before .body-text .ensures in (
+      t .0 ∙ parts _ _ _ _ _ _ (c .before .before .before .before .before .before .before .before .before .before .before .before .before .before .before .before .before .before .before .before .before .pre .1 .0) (c .before .before .before .before .before .before .before .before .before .before .before .before .before .before .before .before .word .ensures) (c .before .before .before .before .before .before .before .before .before .before .before .before .before .before .before .word2 .ensures) (words-read _ _ _ _ _ _ (omega (arith, c .before .before .before .before .before .before .before .before .before .before .before .before .before .before .before .before .word .ensures, c .before .before .before .before .before .before .before .before .before .before .before .before .before .before .before .before .before .before .before .before .before .pre .0 .most-rows)) (c .before .before .before .before .before .before .before .before .before .before .before .before .before .words .ensures))
+          (words-read _ _ _ _ _ _ (omega (arith, c .before .before .before .before .before .before .before .before .before .before .before .before .before .before .before .word2 .ensures, c .before .before .before .before .before .before .before .before .before .before .before .before .before .before .before .before .before .before .before .before .before .pre .0 .most-names)) (c .before .before .before .before .before .before .before .before .before .words2 .ensures)) refl,
+      t .1,
+    )
+
+pub decoded-text-spec : {M : Type 1} → statement M
+decoded-text-spec =
+    tie.close
+    (tie.spec
+    word-requires
+    cast-rows
+    mul-rows
+    word-requires-2
+    cast-pairs
+    mul-pairs
+    mul-pairs-from
+    add-pairs-from
+    mul-bytes-from
+    add-bytes-from
+    slice-relend-prefix-words
+    slice-aggregate-words
+    words-requires
+    slice-relend-prefix-words-2
+    slice-aggregate-words-2
+    words-requires-2
+    slice-reshare-prefix-body-text
+    slice-aggregate-body-text
+    slice-reshare-prefix-body-text-2
+    slice-aggregate-body-text-2
+    sub-body-text
+    part-body-text-start
+    part-body-text-end
+    body-text-requires
+    same-length
+    same-length-2
+    same-length-3
+    returns)

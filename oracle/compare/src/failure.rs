@@ -1,0 +1,72 @@
+//! The first difference: where it was found, and its smallest case.
+
+use crate::difference::{Checked, Difference};
+use crate::numbers::grouped;
+use crate::{go, show, shrink, well_formed, words};
+use oracle::bodies::smallest;
+use oracle::refusals::refusal;
+use oracle::{Body, Words};
+
+pub enum Case {
+    Body(Body),
+    Words(Words),
+}
+
+pub struct Failure {
+    pub phase: String,
+    /// Which case of the phase, from 1.
+    pub number: u64,
+    pub case: Case,
+    pub difference: Difference,
+}
+
+impl Case {
+    fn check(&self) -> Checked {
+        match self {
+            Case::Body(body) => well_formed::check(body).map(|_| ()),
+            Case::Words(words) => words::check(words).map(|_| ()),
+        }
+    }
+
+    /// A case that differs, too, and of which nothing can be taken away.
+    fn smallest(self) -> Case {
+        match self {
+            Case::Body(body) => Case::Body(smallest(body, &body_fails)),
+            Case::Words(words) if words_refused(&words) => {
+                Case::Words(shrink::smallest(words, &|words| words::check(words).is_err()))
+            }
+            Case::Words(words) => Case::Body(Body::of_words(&words)).smallest(),
+        }
+    }
+
+    fn text(&self) -> String {
+        match self {
+            Case::Body(body) => format!("{}\n{}", go::text(body), show::body(body)),
+            Case::Words(words) => show::words(words),
+        }
+    }
+}
+
+impl Failure {
+    /// Says what differs, on the smallest case that can be found.
+    pub fn report(self, seed: u64) {
+        let Failure { phase, number, case, difference } = self;
+        eprintln!("Difference in phase \"{phase}\", case {}, seed {seed}:", grouped(number));
+        eprintln!("{}", difference.what);
+        eprintln!("Looking for the smallest case ...");
+        let case = case.smallest();
+        let Difference { what, port, oracle } = case.check().err().unwrap_or(difference);
+        eprintln!("\nSmallest case found: {what}\n{}", case.text());
+        if !port.is_empty() {
+            eprintln!("The port's answer:\n{port}\nThe oracle's answer:\n{oracle}");
+        }
+    }
+}
+
+fn body_fails(body: &Body) -> bool {
+    well_formed::check(body).is_err()
+}
+
+fn words_refused((rows, pairs, bytes): &Words) -> bool {
+    refusal(rows, pairs, bytes).is_some()
+}

@@ -1,0 +1,64 @@
+//! The random bodies to compare on.
+
+use oracle::bodies::{people, random, with_any_bytes, Rng, Shape};
+use oracle::Body;
+
+/// One sort of random bodies.
+pub struct Source {
+    pub name: &'static str,
+    /// Of 1,000 random bodies, how many are of this sort.
+    pub share: u64,
+    /// Whether they are damaged, so that most are refused.
+    pub damaged: bool,
+    pub make: fn(&mut Rng) -> Body,
+}
+
+const fn bodies(name: &'static str, share: u64, make: fn(&mut Rng) -> Body) -> Source {
+    Source { name, share, damaged: false, make }
+}
+
+const fn damaged(name: &'static str, share: u64, make: fn(&mut Rng) -> Body) -> Source {
+    Source { name, share, damaged: true, make }
+}
+
+pub const RANDOM: [Source; 11] = [
+    bodies("random, up to 12 rows", 300, |rng| any(rng, 12)),
+    bodies("random, up to 60 rows", 140, |rng| any(rng, 60)),
+    bodies("random, up to 400 rows", 26, |rng| any(rng, 400)),
+    bodies("random, up to 2,000 rows", 4, |rng| any(rng, 2_000)),
+    bodies("equal names, several numbers", 80, equal_names),
+    bodies("UTF-8 names", 60, utf8_names),
+    bodies("names of any bytes", 80, any_bytes),
+    bodies("as people write them", 10, as_people),
+    damaged("damaged, up to 12 rows", 200, |rng| any(rng, 12)),
+    damaged("damaged, up to 100 rows", 96, |rng| any(rng, 100)),
+    damaged("damaged, up to 2,000 rows", 4, |rng| any(rng, 2_000)),
+];
+
+fn any(rng: &mut Rng, rows: usize) -> Body {
+    let shape = Shape::any(rng, rows);
+    random(rng, shape)
+}
+
+fn equal_names(rng: &mut Rng) -> Body {
+    let names = rng.between(2, 30);
+    let shape = Shape { names, named: names, repeated: true, ..Shape::any(rng, 40) };
+    random(rng, shape)
+}
+
+fn utf8_names(rng: &mut Rng) -> Body {
+    let names = rng.between(1, 12);
+    let shape = Shape { names, named: names, wide: true, ..Shape::any(rng, 40) };
+    random(rng, shape)
+}
+
+fn any_bytes(rng: &mut Rng) -> Body {
+    let body = utf8_names(rng);
+    with_any_bytes(rng, body)
+}
+
+fn as_people(rng: &mut Rng) -> Body {
+    let most = rng.pick(&[20, 60, 200, 600, 2_000]);
+    let rows = rng.between(1, most);
+    people(rng, rows)
+}

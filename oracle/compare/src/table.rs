@@ -1,0 +1,35 @@
+//! The table at the end: what was compared in each phase.
+
+use crate::numbers::grouped;
+use crate::run::Line;
+
+pub fn show(lines: &[Line]) {
+    println!("{HEADER}");
+    let mut all = Line { phase: "all".to_string(), cases: 0, rows: 0, refused: 0 };
+    for line in lines {
+        all.cases += line.cases;
+        all.rows += line.rows;
+        all.refused += line.refused;
+        show_line(line);
+    }
+    show_line(&all);
+    println!("{COMPARED}");
+}
+
+/// A line is shown only where nothing differs: the first difference ends all.
+fn show_line(Line { phase, cases, rows, refused }: &Line) {
+    let compared = if *refused > 0 { "answers, refusals" } else { "answers" };
+    let [cases, rows, refused] = [cases, rows, refused].map(|&count| grouped(count));
+    println!("{phase:31}{cases:>10}{rows:>12}{refused:>9}  {compared:19}{:>11}", 0);
+}
+
+const HEADER: &str = "\
+phase                              bodies        rows  refused  compared           differences";
+
+const COMPARED: &str = "
+answers: of each body not refused; refusal (none), sheet, bindings and verdict
+  with goscript, mended; placing and names with document 01 read plainly; the
+  marks call with all of these; sheet and bindings lent longer than needed, as
+  long, and one word short; stock inside its domains
+refusals: of words refused; number and index in every call with document 01
+  read plainly; no lent word changed; names";
