@@ -17,8 +17,23 @@ pub fn shuffle<T>(rng: &mut Rng, items: &mut [T]) {
     }
 }
 
-/// Names of 16 bytes that differ in their last three, in any order.
+/// Names as people write them, in any order: a word, and a number from the
+/// second time on.
 pub fn names(rng: &mut Rng, count: usize) -> Vec<String> {
+    const WORDS: [&str; 12] = [
+        "outer", "inner", "loop", "next", "done", "retry", "fail", "scan", "read", "again", "end", "L",
+    ];
+    let name = |i: usize| match i / WORDS.len() {
+        0 => WORDS[i].to_string(),
+        turn => format!("{}{turn}", WORDS[i % WORDS.len()]),
+    };
+    let mut names: Vec<String> = (0..count).map(name).collect();
+    shuffle(rng, &mut names);
+    names
+}
+
+/// Names of 16 bytes that differ in their last three, in any order.
+pub fn long_names(rng: &mut Rng, count: usize) -> Vec<String> {
     let mut names: Vec<String> = (0..count).map(|i| format!("label_of_a_na{i:03}")).collect();
     shuffle(rng, &mut names);
     names

@@ -1,7 +1,7 @@
-//! Name-heavy: up to 500 names, each named by one goto and every other one
-//! declared, calls between them.
+//! Name-heavy: up to 500 long names that begin alike, each named by one goto
+//! and every other one declared, calls between them.
 
-use super::fill::{fill, names, shuffle};
+use super::fill::{fill, long_names, shuffle};
 use oracle::bodies::rows::{body, goto, label, leaf, Rows};
 use oracle::bodies::Rng;
 use oracle::{kind, Body};
@@ -12,5 +12,5 @@ pub fn make(rng: &mut Rng, rows: usize) -> Body {
     items.extend((2..=count as u32).step_by(2).map(|name| label(name, leaf(kind::EXPR, 0))));
     fill(&mut items, rows);
     shuffle(rng, &mut items);
-    body(&items, &names(rng, count))
+    body(&items, &long_names(rng, count))
 }

@@ -6,7 +6,8 @@ use mathlib.Core.List.{List, [], _∷_}
 use Prim.Native.Nat.{ℕ, suc, _+_, _<_, _≤_}
 use native.Mathlib.Numerals.{add-one}
 use native.Mathlib.Omega.{arith}
-use lib.Dec.{eqb}
+use native.Mathlib.Decide.{decLt}
+use lib.Dec.{ltb, eqb}
 use lib.ListN.{length, drop, getD, drop-of-length-le}
 use lib.Seq.{drop-cons}
 use borrow.Author.Tests.{lt-ltb, le-ltb, eq-eqb, ne-eqb}
@@ -42,25 +43,28 @@ nothing-before-none [] = refl
 nothing-before-none (x ∷ xs) = refl
 
 module _ (a b : List ℕ) (i : ℕ) where
-  pub before-prefix : length a ≤ i → i < length b → bytesBefore (drop i a) (drop i b) ≡ true
+  -- where the shorter one ends, it comes first
+  pub before-lengths : (length a < length b → i ≡ length a) → (length b ≤ length a → i ≡ length b) → ltb (length a) (length b) ≡ bytesBefore (drop i a) (drop i b)
   unfolding bytesBefore
-  before-prefix h l = rw (drop-of-length-le a {i = i} h, drop-cons b i 0)
-
-  pub before-end : length b ≤ i → bytesBefore (drop i a) (drop i b) ≡ false
-  before-end l = rw (drop-of-length-le b {i = i} l) (nothing-before-none (drop i a))
+  before-lengths f g = elim (decLt (length a) (length b)) [
+    | yes h ↦
+        let m : length a ≤ i = omega (arith, f h) in
+        let l : i < length b = omega (arith, f h) in
+        rw (lt-ltb (length a) (length b) h, drop-of-length-le a {i = i} m, drop-cons b i 0 l)
+    | no n ↦
+        let l : length b ≤ i = omega (arith, g (omega arith)) in
+        rw (le-ltb (length a) (length b) (omega arith), drop-of-length-le b {i = i} l, nothing-before-none (drop i a))
+  ]
 
   module _ (h : i < length a) (l : i < length b) where
-    pub less-byte : getD a i 0 < getD b i 0 → bytesBefore (drop i a) (drop i b) ≡ true
+    -- the first bytes that differ decide
+    pub first-other : (getD a i 0 ≡ getD b i 0 → ⊥) → ltb (getD a i 0) (getD b i 0) ≡ bytesBefore (drop i a) (drop i b)
     unfolding bytesBefore
-    less-byte s = rw (drop-cons a i 0, drop-cons b i 0, lt-ltb (getD a i 0) (getD b i 0) s)
+    first-other n = case-of (ltb (getD a i 0) (getD b i 0))
+        (λ t. rw (drop-cons a i 0 h, drop-cons b i 0 l, t))
+        (λ t. rw (drop-cons a i 0 h, drop-cons b i 0 l, t, ne-eqb (getD a i 0) (getD b i 0) n))
 
-    pub more-byte : getD b i 0 < getD a i 0 → bytesBefore (drop i a) (drop i b) ≡ false
+    pub before-next : getD a i 0 ≡ getD b i 0 → bytesBefore (drop i a) (drop i b) ≡ bytesBefore (drop (i + 1) a) (drop (i + 1) b)
     unfolding bytesBefore
-    more-byte s =
-        rw (drop-cons a i 0, drop-cons b i 0, le-ltb (getD a i 0) (getD b i 0) (omega arith), ne-eqb (getD a i 0) (getD b i 0) (omega arith))
-
-    pub before-next : getD b i 0 ≤ getD a i 0 → getD a i 0 ≤ getD b i 0
-        → bytesBefore (drop i a) (drop i b) ≡ bytesBefore (drop (i + 1) a) (drop (i + 1) b)
-    unfolding bytesBefore
-    before-next s t =
-        rw (add-one, drop-cons a i 0, drop-cons b i 0, le-ltb (getD a i 0) (getD b i 0) s, eq-eqb (getD a i 0) (getD b i 0) (omega arith))
+    before-next e =
+        rw (add-one, drop-cons a i 0 h, drop-cons b i 0 l, le-ltb (getD a i 0) (getD b i 0) (omega arith), eq-eqb (getD a i 0) (getD b i 0) e)

@@ -1,5 +1,6 @@
 // Equality and order of bytes: unsigned, a prefix first.
 ghost use mathlib.Core.Path.{_≡_};
+ghost use Prim.Native.Nat.{_<_, _≤_};
 ghost use Rattle.rules.specs.Names.{sameBytes, bytesBefore};
 
 pub fn same_bytes(a: &[u8], b: &[u8]) -> bool
@@ -18,22 +19,23 @@ pub fn same_bytes(a: &[u8], b: &[u8]) -> bool
     true
 }
 
+fn least(a: usize, b: usize) -> usize
+    ensures { λ r. ⌜ (r ≤ a) × (r ≤ b) × (a < b → r ≡ a) × (b ≤ a → r ≡ b) ⌝ }
+{
+    if a < b { a } else { b }
+}
+
 // Whether `a` comes before `b`.
 pub fn bytes_before(a: &[u8], b: &[u8]) -> bool
     ensures { λ r. ⌜ r ≡ bytesBefore (now (a .entry)) (now (b .entry)) ⌝ }
 {
+    let both = least(a.len(), b.len());
     let mut i = 0;
-    while i < b.len() {
-        if a.len() <= i {
-            return true;
-        }
-        if a[i] < b[i] {
-            return true;
-        }
-        if b[i] < a[i] {
-            return false;
+    while i < both {
+        if a[i] != b[i] {
+            return a[i] < b[i];
         }
         i += 1;
     }
-    false
+    a.len() < b.len()
 }

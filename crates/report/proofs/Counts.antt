@@ -3,16 +3,15 @@
 -- Assumes nothing.
 use mathlib.Core.Path.{_≡_, refl, sym, _∙_, ap}
 use mathlib.Core.Bool.{Bool, true, false, _||_, not}
-use mathlib.Core.List.{List, [], _∷_}
-use mathlib.Core.Option.{some}
+use mathlib.Core.List.{List}
 use Prim.Native.Nat.{ℕ, _+_, _*_, _/_, _%_, _≤_, _<_}
 use native.Mathlib.Omega.{arith}
 use native.Mathlib.Decide.{decLt, ℕ-discrete}
 use lib.Dec.{ltb, eqb}
-use lib.ListN.{length, take, drop, length-take, length-drop}
-use borrow.Author.Tests.{ltb-true, ltb-false, eqb-true, eqb-false, lt-ltb, le-ltb, eq-eqb, ne-eqb}
-use Rattle.rules.specs.Names.{pairCount, badNameWords}
-use Rattle.rules.specs.Refusals.{badRowWords, refusal}
+use lib.ListN.{length, drop, length-take, length-drop}
+use borrow.Author.Tests.{ltb-false, eqb-false, lt-ltb, le-ltb, eq-eqb, ne-eqb}
+use Rattle.rules.specs.Names.{badNameWords}
+use Rattle.rules.specs.Refusals.{badRowWords}
 use Rattle.rules.proofs.Causes.{refused-1, refused-2}
 use Rattle.rules.proofs.Test.{case-of, clash, or-false}
 use Rattle.branches.proofs.WalkBindings.{each-length}

@@ -1,7 +1,7 @@
 -- Words read into the first part of a slice are that part afterwards; and the parts of a file of the length it says are its row words, its pair words and its
 -- name bytes, which go to the end.
 -- Assumes nothing.
-use mathlib.Core.Path.{_≡_, refl, sym, _∙_, ap}
+use mathlib.Core.Path.{_≡_, sym, _∙_, ap}
 use mathlib.Core.List.{List, _++_}
 use Prim.Native.Nat.{ℕ, _+_, _-_, _*_, _≤_}
 use native.Mathlib.Omega.{arith}
@@ -9,7 +9,7 @@ use lib.ListN.{length, take, drop, length-take}
 use lib.Seq.{length-take-le, take-at}
 use Rattle.bodyfile.specs.File.{words, rows, names, bytes, rowWords, pairWords, nameBytes}
 use Rattle.report.specs.Text.{bodyText}
-use Rattle.report.specs.Limits.{said}
+use Rattle.report.specs.Limits.{said, Within}
 use Rattle.report.proofs.Counts.{words-length}
 
 pub words-read : (f : List ℕ) (i k : ℕ) (new rest old : List ℕ) → k ≤ length old → new ≡ words f i (length (take k old)) → take k (new ++ rest) ≡ words f i k
@@ -38,3 +38,10 @@ parts f x y w p b l e g ew ep eb =
 
 pub take-most : (k n : ℕ) (l : List ℕ) → k ≤ n → length (take k l) ≤ n
 take-most k n l h = omega (arith, length-take k l)
+
+-- ---- room for the words
+pub rows-fit : {f : List ℕ} {x n : ℕ} → Within f → x ≡ rows f → 10000 ≤ n → x * 5 ≤ n
+rows-fit i e h = omega (arith, i .most-rows)
+
+pub pairs-fit : {f : List ℕ} {x n : ℕ} → Within f → x ≡ names f → 1000 ≤ n → x * 2 ≤ n
+pairs-fit i e h = omega (arith, i .most-names)

@@ -6,7 +6,7 @@ use mathlib.Core.List.{List, [], _∷_, _++_}
 use Prim.Native.Nat.{ℕ}
 use Rattle.rules.proofs.Computed.{computed}
 use Rattle.bodyfile.specs.File.{words, badFile}
-use Rattle.report.specs.Text.{decimal, refusedText, sheetText, bindsText, bodyText, marksText}
+use Rattle.report.specs.Text.{decimal, sheetText, bindsText, bodyText, marksText}
 
 -- words below 256 as bytes
 abbrev small : List ℕ → List ℕ

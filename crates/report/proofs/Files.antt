@@ -1,20 +1,20 @@
 -- The file's first bytes decide: its header is the whole file's, so that the counts and the length it says are; and where the counts are within their limits
 -- and the length is the one it says, the first bytes are the whole file.
 -- Assumes nothing.
-use mathlib.Core.Path.{_≡_, refl, sym, _∙_, ap}
+use mathlib.Core.Path.{_≡_, sym, _∙_, ap}
 use mathlib.Core.Bool.{Bool, true, false, _||_, not}
 use mathlib.Core.List.{List}
-use Prim.Native.Nat.{ℕ, _+_, _*_, _≤_, _<_}
+use Prim.Native.Nat.{ℕ, _+_, _≤_, _<_}
 use native.Mathlib.Omega.{arith}
 use native.Mathlib.Decide.{decLt, ℕ-discrete}
 use lib.Dec.{ltb, eqb}
-use lib.ListN.{length, getD, take, drop, length-take, length-drop}
+use lib.ListN.{length, take, length-take}
 use lib.Seq.{getD-take, take-all}
-use borrow.Author.Tests.{ltb-true, ltb-false, eqb-true, lt-ltb, le-ltb, eq-eqb, ne-eqb, not-false}
+use borrow.Author.Tests.{ltb-false, eqb-true, lt-ltb, le-ltb, eq-eqb, ne-eqb, not-false}
 use Rattle.rules.proofs.Test.{or-false}
 use Rattle.bodyfile.specs.File.{word, rows, names, bytes, rowWords, pairWords, nameBytes, badFile}
 use Rattle.report.specs.Text.{refusedText, bodyText, marksText}
-use Rattle.report.specs.Limits.{said, badStart, countRefusal, Within}
+use Rattle.report.specs.Limits.{said, badStart, countRefusal}
 use Rattle.report.proofs.Counts.{within, counts-refused}
 
 -- ---- the output

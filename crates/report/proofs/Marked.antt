@@ -2,8 +2,8 @@
 -- refuses, and else its count, place and verdict, the sheet's first words and the bindings' are those of the definitions.
 -- Assumes nothing.
 use mathlib.Core.Path.{_≡_, refl, sym, _∙_, ap}
-use mathlib.Core.Bool.{Bool, true, false}
-use mathlib.Core.List.{List, [], _∷_, _++_}
+use mathlib.Core.Bool.{Bool, false}
+use mathlib.Core.List.{List, _++_}
 use mathlib.Core.Option.{Option, none, some}
 use Prim.Native.Nat.{ℕ, _+_, _*_, _/_, _≤_}
 use native.Mathlib.Omega.{arith}
@@ -21,7 +21,7 @@ use Rattle.rules.proofs.Test.{clash}
 use Rattle.branches.proofs.CanonRows.{body-end}
 use Rattle.branches.proofs.WalkFaults.{words-length}
 use Rattle.branches.proofs.WalkBindings.{each-length}
-use Rattle.marking.specs.Marks.{together, marksCall}
+use Rattle.marking.specs.Marks.{marksCall}
 use Rattle.report.specs.Text.{refusedText, sheetText, bindsText, placedText, verdictText, bodyText}
 use Rattle.report.specs.Lines.{sheetLines}
 use Rattle.report.proofs.SheetLines.{sheet-lines}

@@ -7,7 +7,7 @@ use native.Mathlib.Omega.{arith}
 use lib.ListN.{length, getD}
 use Rattle.rules.specs.Labels.{Fault, each}
 use Rattle.rules.specs.Calls.{faultWords}
-use Rattle.rules.proofs.Each.{each-zero, each-suc}
+use Rattle.rules.proofs.Each.{each-zero}
 use Rattle.report.specs.Text.{line, sheetWord, faultLines, sheetText}
 use Rattle.report.specs.Lines.{sheetLine, sheetLines}
 

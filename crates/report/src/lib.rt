@@ -6,7 +6,7 @@ use marking::Marking;
 use marking::Marks;
 ghost use mathlib.Core.Path.{_≡_};
 ghost use mathlib.Core.List.{List, _++_};
-ghost use Prim.Native.Nat.{ℕ, _*_, _/_, _≤_};
+ghost use Prim.Native.Nat.{ℕ, _*_, _≤_};
 ghost use lib.ListN.{length as lengthOf, take};
 ghost use Rattle.io.specs.Counts.{Counts};
 ghost use Rattle.bodyfile.specs.File.{rowWords, pairWords, nameBytes};
@@ -48,6 +48,7 @@ fn body_text(rows: &[u32], pairs: &[u32], bytes: &[u8], out: &mut [u8]) -> usize
         Marking::Refused(r) => {
             lines::refused_text(marking::number_of(r), marking::index_of(r), out)
         }
+        // never: there is room for 2,000 rows
         Marking::TooShort => lines::refused_text(7, 0, out),
         Marking::Marked(m) => marked_text(&sheet, &bindings[..count], m, out),
     }

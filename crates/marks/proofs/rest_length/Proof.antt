@@ -2,7 +2,6 @@
 -- Assumes nothing.
 use mathlib.Core.Path.{_≡_}
 use Prim.Native.Nat.{_-_, _<_}
-use native.Mathlib.Omega.{arith}
 use lib.ListN.{length as lengthOf}
 use borrow.Author.Needs.{needs}
 use Rattle.marks.proofs.rest_length.Statement.{statement}

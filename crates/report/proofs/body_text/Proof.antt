@@ -1,6 +1,6 @@
 -- What the call answers is printed. The lent sheet has 8 words, and the lent bindings one, for each of 2,000 rows, so that the call doesn't refuse them.
 -- Assumes nothing.
-use mathlib.Core.Path.{_≡_, sym, _∙_, ap}
+use mathlib.Core.Path.{sym, _∙_, ap}
 use native.Mathlib.Omega.{arith}
 use lib.ListN.{length, length-take}
 use lib.Seq.{length-take-le}

@@ -1,6 +1,5 @@
 -- The tests are those of the definition.
 -- Assumes nothing.
-use mathlib.Core.Path.{_≡_, sym, _∙_}
 use native.Mathlib.Omega.{arith}
 use denote.Ref.{now}
 use Rattle.report.proofs.Counts.{refuses-no-rows, refuses-rows, refuses-names, refuses-bytes, refuses-none}

@@ -1,11 +1,10 @@
 -- The words of the file's rows and names are read into the first parts of the two slices, and the name bytes are the file's last part.
 -- Assumes nothing.
-use mathlib.Core.Path.{_≡_, refl, sym, _∙_}
-use Prim.Native.Nat.{_*_, _≤_}
+use mathlib.Core.Path.{refl, sym, _∙_}
+use Prim.Native.Nat.{_*_}
 use native.Mathlib.Omega.{arith}
-use lib.ListN.{length}
 use lib.Seq.{length-take-le}
-use Rattle.report.proofs.Decoded.{words-read, words-count, take-most, parts}
+use Rattle.report.proofs.Decoded.{words-read, words-count, take-most, parts, rows-fit, pairs-fit}
 use borrow.Author.Needs.{needs}
 use Rattle.report.proofs.decoded_text.Statement.{statement}
 use Rattle.report.proofs.decoded_text.Tie as tie
@@ -44,39 +43,58 @@ slice-relend-prefix-words : tie.Need-slice-relend-prefix-words
 slice-relend-prefix-words c = search needs
 
 slice-aggregate-words : tie.Need-slice-aggregate-words
-slice-aggregate-words c = sym (length-take-le _ _ (omega (arith, c .before .before .word .ensures, c .before .before .before .before .before .before .before .pre .0 .most-rows)))
+slice-aggregate-words c =
+    let s = c .before .before .before .before .before .before .before in
+    sym (length-take-le _ _ (rows-fit (s .pre .0) (c .before .before .word .ensures) (s .pre .1 .1 .0)))
 
 words-requires : tie.Need-words-requires
 words-requires c κs =
-    omega (arith, c .before .before .word .ensures, c .before .before .before .before .before .before .before .pre .1 .0, length-take-le (c .before .before .word .result * 5) (c .before .before .before .before .before .before .before .args .row-words .now) (omega (arith, c .before .before .word .ensures, c .before .before .before .before .before .before .before .pre .0 .most-rows)))
+    let s = c .before .before .before .before .before .before .before in
+    let w = c .before .before .word in
+    omega (
+      arith,
+      w .ensures,
+      s .pre .1 .0,
+      length-take-le (w .result * 5) (s .args .row-words .now) (rows-fit (s .pre .0) (w .ensures) (s .pre .1 .1 .0)),
+    )
 
 slice-relend-prefix-words-2 : tie.Need-slice-relend-prefix-words-2
 slice-relend-prefix-words-2 c = search needs
 
 slice-aggregate-words-2 : tie.Need-slice-aggregate-words-2
-slice-aggregate-words-2 c = sym (length-take-le _ _ (omega (arith, c .before .before .before .before .before .word2 .ensures, c .before .before .before .before .before .before .before .before .before .before .before .pre .0 .most-names)))
+slice-aggregate-words-2 c =
+    let s = c .before .before .before .before .before .before .before .before .before .before .before in
+    sym (length-take-le _ _ (pairs-fit (s .pre .0) (c .before .before .before .before .before .word2 .ensures) (s .pre .1 .1 .1 .0)))
 
 words-requires-2 : tie.Need-words-requires-2
 words-requires-2 c κs =
+    let s = c .before .before .before .before .before .before .before .before .before .before .before in
+    let w = c .before .before .before .before .before .word2 in
     omega (
       arith,
       c .before .before .before .before .before .before .word .ensures,
-      c .before .before .before .before .before .word2 .ensures,
-      c .before .before .before .before .before .before .before .before .before .before .before .pre .1 .0,
-      length-take-le (c .before .before .before .before .before .word2 .result * 2) (c .before .before .before .before .before .before .before .before .before .before .before .args .pair-words .now) (omega (arith, c .before .before .before .before .before .word2 .ensures, c .before .before .before .before .before .before .before .before .before .before .before .pre .0 .most-names)),
+      w .ensures,
+      s .pre .1 .0,
+      length-take-le (w .result * 2) (s .args .pair-words .now) (pairs-fit (s .pre .0) (w .ensures) (s .pre .1 .1 .1 .0)),
     )
 
 slice-reshare-prefix-body-text : tie.Need-slice-reshare-prefix-body-text
 slice-reshare-prefix-body-text c = search needs
 
 slice-aggregate-body-text : tie.Need-slice-aggregate-body-text
-slice-aggregate-body-text c = words-count _ _ _ _ _ _ (omega (arith, c .before .before .before .before .before .before .before .before .before .before .word .ensures, c .before .before .before .before .before .before .before .before .before .before .before .before .before .before .before .pre .0 .most-rows)) (c .before .before .before .before .before .before .before .words .ensures)
+slice-aggregate-body-text c =
+    let s = c .before .before .before .before .before .before .before .before .before .before .before .before .before .before .before in
+    let w = c .before .before .before .before .before .before .before .before .before .before .word .ensures in
+    words-count _ _ _ _ _ _ (rows-fit (s .pre .0) w (s .pre .1 .1 .0)) (c .before .before .before .before .before .before .before .words .ensures)
 
 slice-reshare-prefix-body-text-2 : tie.Need-slice-reshare-prefix-body-text-2
 slice-reshare-prefix-body-text-2 c = search needs
 
 slice-aggregate-body-text-2 : tie.Need-slice-aggregate-body-text-2
-slice-aggregate-body-text-2 c = words-count _ _ _ _ _ _ (omega (arith, c .before .before .before .before .before .before .before .before .before .before .word2 .ensures, c .before .before .before .before .before .before .before .before .before .before .before .before .before .before .before .before .pre .0 .most-names)) (c .before .before .before .before .words2 .ensures)
+slice-aggregate-body-text-2 c =
+    let s = c .before .before .before .before .before .before .before .before .before .before .before .before .before .before .before .before in
+    let w = c .before .before .before .before .before .before .before .before .before .before .word2 .ensures in
+    words-count _ _ _ _ _ _ (pairs-fit (s .pre .0) w (s .pre .1 .1 .1 .0)) (c .before .before .before .before .words2 .ensures)
 
 sub-body-text : tie.Need-sub-body-text
 sub-body-text c = search needs
@@ -89,8 +107,9 @@ part-body-text-end c = search needs
 
 body-text-requires : tie.Need-body-text-requires
 body-text-requires c κs =
-    let h : c .before .before .before .before .before .before .before .before .before .before .before .before .before .word .result * 5 ≤ 10000 = omega (arith, c .before .before .before .before .before .before .before .before .before .before .before .before .before .word .ensures, c .before .before .before .before .before .before .before .before .before .before .before .before .before .before .before .before .before .before .pre .0 .most-rows) in
-    (take-most _ _ _ h, omega arith)
+    let s = c .before .before .before .before .before .before .before .before .before .before .before .before .before .before .before .before .before .before in
+    let w = c .before .before .before .before .before .before .before .before .before .before .before .before .before .word .ensures in
+    (take-most _ _ _ (rows-fit {n = 10000} (s .pre .0) w (omega arith)), omega arith)
 
 same-length : tie.Need-same-length
 same-length c = search needs
@@ -103,9 +122,15 @@ same-length-3 c = search needs
 
 returns : tie.Need-returns
 returns c =
+    let s = c .before .before .before .before .before .before .before .before .before .before .before .before .before .before .before .before .before .before .before .before .before in
+    let r = c .before .before .before .before .before .before .before .before .before .before .before .before .before .before .before .before .word .ensures in
+    let p = c .before .before .before .before .before .before .before .before .before .before .before .before .before .before .before .word2 .ensures in
     let t = c .before .before .body-text .ensures in (
-      t .0 ∙ parts _ _ _ _ _ _ (c .before .before .before .before .before .before .before .before .before .before .before .before .before .before .before .before .before .before .before .before .before .pre .1 .0) (c .before .before .before .before .before .before .before .before .before .before .before .before .before .before .before .before .word .ensures) (c .before .before .before .before .before .before .before .before .before .before .before .before .before .before .before .word2 .ensures) (words-read _ _ _ _ _ _ (omega (arith, c .before .before .before .before .before .before .before .before .before .before .before .before .before .before .before .before .word .ensures, c .before .before .before .before .before .before .before .before .before .before .before .before .before .before .before .before .before .before .before .before .before .pre .0 .most-rows)) (c .before .before .before .before .before .before .before .before .before .before .before .before .before .words .ensures))
-          (words-read _ _ _ _ _ _ (omega (arith, c .before .before .before .before .before .before .before .before .before .before .before .before .before .before .before .word2 .ensures, c .before .before .before .before .before .before .before .before .before .before .before .before .before .before .before .before .before .before .before .before .before .pre .0 .most-names)) (c .before .before .before .before .before .before .before .before .before .words2 .ensures)) refl,
+      t .0
+          ∙ parts _ _ _ _ _ _ (s .pre .1 .0) r p
+          (words-read _ _ _ _ _ _ (rows-fit (s .pre .0) r (s .pre .1 .1 .0)) (c .before .before .before .before .before .before .before .before .before .before .before .before .before .words .ensures))
+          (words-read _ _ _ _ _ _ (pairs-fit (s .pre .0) p (s .pre .1 .1 .1 .0)) (c .before .before .before .before .before .before .before .before .before .words2 .ensures))
+          refl,
       t .1,
     )
 

@@ -1,6 +1,6 @@
 -- The first bytes decide what is refused; what is not refused they are the whole of.
 -- Assumes nothing.
-use mathlib.Core.Path.{_≡_, sym, _∙_, ap}
+use mathlib.Core.Path.{sym, _∙_}
 use native.Mathlib.Omega.{arith}
 use Rattle.report.proofs.Counts.{within}
 use Rattle.report.proofs.Files.{start-passes, prints-bad, prints-counts, prints-whole, never-short}

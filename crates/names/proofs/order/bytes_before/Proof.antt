@@ -1,48 +1,45 @@
 -- `order::bytes_before` meets its contract. The loop's invariant: both lists are equal up to i, so the lists from i on
--- are in the order of the whole lists. The measure is what is left of the second length.
+-- are in the order of the whole lists. The measure is what is left of the shorter length.
 -- Assumes nothing.
 use mathlib.Core.Path.{_≡_, refl, sym, _∙_}
 use Prim.Native.Nat.{_≤_, _-_}
 use native.Mathlib.Omega.{arith}
 use lib.ListN.{length, drop}
+use borrow.Author.Needs.{needs}
 use Rattle.rules.specs.Names.{bytesBefore}
-use Rattle.names.proofs.Bytes.{before-prefix, before-end, before-next, less-byte, more-byte}
+use Rattle.names.proofs.Bytes.{before-lengths, before-next, first-other}
 use Rattle.names.proofs.order.bytes_before.Statement.{statement}
 use Rattle.names.proofs.order.bytes_before.Tie as tie
 
 abbrev Inv-loop : tie.InvT-loop
-Inv-loop a b i₀ i = (i ≤ length b) × (bytesBefore a b ≡ bytesBefore (drop i a) (drop i b))
+Inv-loop a b both i₀ i = (i ≤ both) × (both ≤ length a) × (both ≤ length b) × (bytesBefore a b ≡ bytesBefore (drop i a) (drop i b))
 
 abbrev μ-loop : tie.MeasureT-loop
-μ-loop a b i₀ i = length b - i
+μ-loop a b both i₀ i = both - i
+
+least-requires : tie.Need-least-requires Inv-loop μ-loop
+least-requires c κs = search needs
 
 loop-holds : tie.Need-loop-holds Inv-loop μ-loop
-loop-holds c = (omega arith, refl)
+loop-holds c = let l = c .least .ensures in (omega arith, l .0, l .1, refl)
+
+shared-slice-read-if1 : tie.Need-shared-slice-read-if1 Inv-loop μ-loop
+shared-slice-read-if1 c = omega arith
+
+shared-slice-read-if1-2 : tie.Need-shared-slice-read-if1-2 Inv-loop μ-loop
+shared-slice-read-if1-2 c = omega arith
+
+shared-slice-read-result : tie.Need-shared-slice-read-result Inv-loop μ-loop
+shared-slice-read-result c = omega arith
+
+shared-slice-read-result-2 : tie.Need-shared-slice-read-result-2 Inv-loop μ-loop
+shared-slice-read-result-2 c = omega arith
 
 returns : tie.Need-returns Inv-loop μ-loop
-returns c = sym (c .before .before .loop .inv .1 ∙ before-prefix _ _ _ (c .if1 .taken) (c .before .loop-test .taken))
-
-shared-slice-read-if2 : tie.Need-shared-slice-read-if2 Inv-loop μ-loop
-shared-slice-read-if2 c = omega arith
-
-shared-slice-read-if2-2 : tie.Need-shared-slice-read-if2-2 Inv-loop μ-loop
-shared-slice-read-if2-2 c = omega arith
-
-returns-2 : tie.Need-returns-2 Inv-loop μ-loop
-returns-2 c =
-    let k = c .before .before .before in
-    sym (k .before .before .loop .inv .1 ∙ less-byte _ _ _ (k .if1 .left) (k .before .loop-test .taken) (c .if2 .taken))
-
-shared-slice-read-if3 : tie.Need-shared-slice-read-if3 Inv-loop μ-loop
-shared-slice-read-if3 c = omega arith
-
-shared-slice-read-if3-2 : tie.Need-shared-slice-read-if3-2 Inv-loop μ-loop
-shared-slice-read-if3-2 c = omega arith
-
-returns-3 : tie.Need-returns-3 Inv-loop μ-loop
-returns-3 c =
-    let k = c .before .before .before .before .before .before in
-    sym (k .before .before .loop .inv .1 ∙ more-byte _ _ _ (k .if1 .left) (k .before .loop-test .taken) (c .if3 .taken))
+returns c =
+    let s = c .before .before .before .before .before .before .before .before .before .before .args in
+    let l = c .before .before .before .before .before .before .loop in
+    first-other (s .a .now) (s .b .now) (l .i) (omega arith) (omega arith) (c .before .before .if1 .taken) ∙ sym (l .inv .3)
 
 add-i : tie.Need-add-i Inv-loop μ-loop
 add-i c = omega arith
@@ -52,13 +49,16 @@ loop-less c = omega arith
 
 loop-again : tie.Need-loop-again Inv-loop μ-loop
 loop-again c =
-    let k = c .before .before .before .before .before .before in (
-      omega arith,
-      k .before .before .loop .inv .1 ∙ before-next _ _ _ (k .if1 .left) (k .before .loop-test .taken) (c .before .before .before .if2 .left) (c .if3 .left),
-    )
+    let s = c .before .before .before .before .before .before .before .before .args in
+    let l = c .before .before .before .before .loop in
+    (omega arith, l .inv .1, l .inv .2, l .inv .3 ∙ before-next (s .a .now) (s .b .now) (l .i) (omega arith) (omega arith) (c .if1 .left))
 
-returns-4 : tie.Need-returns-4 Inv-loop μ-loop
-returns-4 c = sym (c .before .loop .inv .1 ∙ before-end _ _ _ (c .loop-test .left))
+returns-2 : tie.Need-returns-2 Inv-loop μ-loop
+returns-2 c =
+    let s = c .before .before .before .before .before .args in
+    let l = c .before .loop in
+    let m = c .before .before .least .ensures in
+    before-lengths (s .a .now) (s .b .now) (l .i) (λ h. omega (arith, m .2 h, l .inv .0)) (λ h. omega (arith, m .3 h, l .inv .0)) ∙ sym (l .inv .3)
 
 pub bytes-before-spec : {M : Type 1} → statement M
 bytes-before-spec =
@@ -66,15 +66,14 @@ bytes-before-spec =
     (tie.spec
     Inv-loop
     μ-loop
+    least-requires
     loop-holds
+    shared-slice-read-if1
+    shared-slice-read-if1-2
+    shared-slice-read-result
+    shared-slice-read-result-2
     returns
-    shared-slice-read-if2
-    shared-slice-read-if2-2
-    returns-2
-    shared-slice-read-if3
-    shared-slice-read-if3-2
-    returns-3
     add-i
     loop-less
     loop-again
-    returns-4)
+    returns-2)

@@ -2,10 +2,8 @@
 -- Assumes nothing.
 use Prim.Native.Nat.{_+_, _-_, _≤_}
 use native.Mathlib.Omega.{arith}
-use lib.ListN.{length, take, length-set}
-use lib.Seq.{take-length}
+use lib.ListN.{length, take}
 use borrow.Author.Needs.{needs}
-use mathlib.Core.Path.{_≡_, ap, sym, _∙_}
 use Rattle.report.specs.Wrote.{Wrote}
 use Rattle.report.proofs.Writing.{nothing, next-of, all-of}
 use Rattle.report.proofs.text.bytes.Statement.{statement}

@@ -2,9 +2,8 @@
 -- Assumes nothing.
 use mathlib.Core.Path.{_≡_, _∙_}
 use mathlib.Core.List.{List}
-use Prim.Native.Nat.{ℕ, _≤_, _<_}
+use Prim.Native.Nat.{ℕ, _<_}
 use native.Mathlib.Omega.{arith}
-use lib.ListN.{length, take}
 use Rattle.io.specs.Digits.{digits, Fewest}
 use Rattle.report.specs.Text.{decimal}
 use Rattle.report.specs.Wrote.{Wrote}

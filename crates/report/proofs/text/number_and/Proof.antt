@@ -1,6 +1,5 @@
 -- The byte stands behind the number, which takes at most 20.
 -- Assumes nothing.
-use mathlib.Core.List.{[], _∷_}
 use native.Mathlib.Omega.{arith}
 use Rattle.report.proofs.Decimals.{decimal-twenty}
 use Rattle.report.proofs.Writing.{behind}
