@@ -2,6 +2,7 @@
 
 use crate::headers;
 use crate::list::List;
+use crate::table;
 use oracle::bodies::rows::{block, body, goto, label, leaf, over};
 use oracle::bodies::{at_limits, damage, every, people, random, with_any_bytes, Rng, Shape};
 use oracle::file::file;
@@ -22,6 +23,7 @@ const LIMITS: [&str; 8] = [
 pub fn all(list: &mut List) {
     let mut rng = Rng::new(1);
     list.add(&example().words());
+    table::bodies().iter().for_each(|body| list.add(&body.words()));
     headers::add(list, &example());
     every(3, &mut |body| list.add(&body.words()));
     for _ in 0..1_500 {

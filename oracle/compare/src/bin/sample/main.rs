@@ -5,6 +5,7 @@ mod chosen;
 mod headers;
 mod list;
 mod summary;
+mod table;
 
 use list::List;
 use std::process::ExitCode;
