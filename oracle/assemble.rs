@@ -25,7 +25,9 @@ pub fn write_modules(file: &str, paths: &[PathBuf]) {
 }
 
 fn module(path: &Path) -> String {
-    println!("cargo:rerun-if-changed={}", path.display());
+    if !path.starts_with(out()) {
+        println!("cargo:rerun-if-changed={}", path.display());
+    }
     assert!(path.is_file(), "{} is missing", path.display());
     let name = path.file_stem().unwrap().to_str().unwrap();
     format!("#[path = {:?}]\npub mod {name};\n", path)
