@@ -25,14 +25,6 @@ pub record FormedLists (w l : List ℕ) : Type 0 where
 abbrev pub Falls : List ℕ → ℕ → Type 0
 Falls w r = (kind w r ≡ 11) × (detail w r ≡ 3) × (name w r ≡ 0)
 
--- no row is
-abbrev pub NoFallthrough : List ℕ → Type 0
-NoFallthrough w = (r : ℕ) → r < rowCount w → Falls w r → ⊥
-
--- where one is, each row's list is known
-abbrev pub ListsAtFallthrough : List ℕ → List ℕ → Type 0
-ListsAtFallthrough w l = (r : ℕ) → r < rowCount w → Falls w r → FormedLists w l
-
 -- of the rows before r that pass, the last ends at e, which is 0 where none does
 pub record Reach (w : List ℕ) (P : Class → Bool) (r e : ℕ) : Type 0 where
   pub most : (k : ℕ) → k < r → P (class w k) ≡ true → end w k ≤ e

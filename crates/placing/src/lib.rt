@@ -6,6 +6,7 @@ use rows::RowNumber;
 ghost use mathlib.Core.Path.{_≡_};
 ghost use mathlib.Core.Bool.{true, false};
 ghost use Prim.Native.Nat.{_≤_, _<_};
+ghost use lib.ListN.{length};
 ghost use Rattle.rules.specs.Rows.{rowCount, kind, name};
 ghost use Rattle.rules.specs.Class.{isBreakable, isLoop, isStatement, class};
 ghost use Rattle.rules.specs.Body.{Detailed};
@@ -14,13 +15,22 @@ ghost use Rattle.rules.specs.Placing.{endsCase, wellPlaced, badlyPlaced, placin
 ghost use Rattle.rules.specs.Calls.{placingCall};
 ghost use Rattle.names.specs.Place.{place};
 ghost use Rattle.placing.specs.Given.{given};
-ghost use Rattle.placing.specs.Reach.{Formed, FormedLists, Falls, NoFallthrough, ListsAtFallthrough, Reach, Later};
+ghost use Rattle.placing.specs.Reach.{Formed, FormedLists, Falls, Reach, Later};
+ghost use Rattle.placing.specs.Searched.{Searched};
 
 pub enum Placing {
     Refused(Refusal),
     // the first row badly placed
     Bad(RowNumber),
     Well,
+}
+
+// Where the search for a row badly placed ended. It needs each row's list where it comes to an
+// unlabelled fallthrough.
+enum Search {
+    At(usize),
+    Nowhere,
+    NeedsLists,
 }
 
 fn wide(number: u16) -> usize
@@ -81,7 +91,7 @@ fn well_placed(
     break_end: usize,
     loop_end: usize,
 ) -> bool
-    requires { ⌜ Formed (now rows) × ListsAtFallthrough (now rows) (now lists) ⌝ }
+    requires { ⌜ Formed (now rows) × (Falls (now rows) (row .0) → FormedLists (now rows) (now lists)) ⌝ }
     requires { ⌜ (row .0 < rowCount (now rows)) × (kind (now rows) (row .0) ≡ 11) × (name (now rows) (row .0) ≡ 0) ⌝ }
     requires { ⌜ Reach (now rows) isBreakable (row .0) «break_end» × Reach (now rows) isLoop (row .0) «loop_end» ⌝ }
     ensures { λ r. ⌜ r ≡ wellPlaced (now (rows .entry)) 0 (row .0) ⌝ }
@@ -103,7 +113,7 @@ fn badly_placed(
     break_end: usize,
     loop_end: usize,
 ) -> bool
-    requires { ⌜ Formed (now rows) × ListsAtFallthrough (now rows) (now lists) ⌝ }
+    requires { ⌜ Formed (now rows) × (Falls (now rows) (row .0) → FormedLists (now rows) (now lists)) ⌝ }
     requires { ⌜ row .0 < rowCount (now rows) ⌝ }
     requires { ⌜ Reach (now rows) isBreakable (row .0) «break_end» × Reach (now rows) isLoop (row .0) «loop_end» ⌝ }
     ensures { λ r. ⌜ r ≡ badlyPlaced (now (rows .entry)) 0 (row .0) ⌝ }
@@ -130,44 +140,6 @@ fn later_end(so_far: usize, counts: bool, end: usize) -> usize
     so_far
 }
 
-// The first row badly placed. The lists are read at an unlabelled fallthrough alone.
-fn first_badly_placed(rows: &[u32], lists: &[u16]) -> Found
-    requires { ⌜ Formed (now rows) × ListsAtFallthrough (now rows) (now lists) ⌝ }
-    ensures { λ r. ⌜ place r ≡ placing (now (rows .entry)) 0 ⌝ }
-{
-    let count = rows.len() / 5;
-    let mut break_end = 0;
-    let mut loop_end = 0;
-    let mut r = 0;
-    while r < count {
-        let row = RowNumber(r);
-        if badly_placed(rows, lists, row, break_end, loop_end) {
-            return Found::At(r);
-        }
-        let kind = rows::kind(rows, row);
-        let end = r + rows::size(rows, row);
-        break_end = later_end(break_end, rows::kinds::is_breakable(kind), end);
-        loop_end = later_end(loop_end, rows::kinds::is_loop(kind), end);
-        r += 1;
-    }
-    Found::Nowhere
-}
-
-// Whether some row is an unlabelled fallthrough.
-fn has_fallthrough(rows: &[u32]) -> bool
-    ensures { λ r. ⌜ (r ≡ false → NoFallthrough (now (rows .entry))) ⌝ }
-{
-    let count = rows.len() / 5;
-    let mut k = 0;
-    while k < count {
-        if is_fallthrough(rows, RowNumber(k)) {
-            return true;
-        }
-        k += 1;
-    }
-    false
-}
-
 // Whether the row is an unlabelled fallthrough.
 fn is_fallthrough(rows: &[u32], row: RowNumber) -> bool
     requires { ⌜ row .0 < rowCount (now rows) ⌝ }
@@ -182,19 +154,69 @@ fn is_fallthrough(rows: &[u32], row: RowNumber) -> bool
     rows::name_word(rows, row) == 0
 }
 
+// Whether the row can't be judged without lists, and there are none.
+fn needs_lists(rows: &[u32], lists: &[u16], row: RowNumber) -> bool
+    requires { ⌜ row .0 < rowCount (now rows) ⌝ }
+    ensures { λ r. ⌜ (r ≡ true → length (now (lists .entry)) ≡ 0) × (r ≡ false → Falls (now (rows .entry)) (row .0) → 0 < length (now (lists .entry))) ⌝ }
+{
+    if lists.len() != 0 {
+        return false;
+    }
+    is_fallthrough(rows, row)
+}
+
+// The first row badly placed. The lists are each row's, or none are lent.
+fn first_badly_placed(rows: &[u32], lists: &[u16]) -> Search
+    requires { ⌜ Formed (now rows) × (0 < length (now lists) → FormedLists (now rows) (now lists)) ⌝ }
+    ensures { λ r. ⌜ Searched (now (rows .entry)) (now (lists .entry)) r ⌝ }
+{
+    let count = rows.len() / 5;
+    let mut break_end = 0;
+    let mut loop_end = 0;
+    let mut r = 0;
+    while r < count {
+        let row = RowNumber(r);
+        if needs_lists(rows, lists, row) {
+            return Search::NeedsLists;
+        }
+        if badly_placed(rows, lists, row, break_end, loop_end) {
+            return Search::At(r);
+        }
+        let kind = rows::kind(rows, row);
+        let end = r + rows::size(rows, row);
+        break_end = later_end(break_end, rows::kinds::is_breakable(kind), end);
+        loop_end = later_end(loop_end, rows::kinds::is_loop(kind), end);
+        r += 1;
+    }
+    Search::Nowhere
+}
+
+// The first row badly placed of a well-formed body, with each row's list.
+fn placed_by_lists(rows: &[u32]) -> Found
+    requires { ⌜ Formed (now rows) ⌝ }
+    ensures { λ r. ⌜ place r ≡ placing (now (rows .entry)) 0 ⌝ }
+{
+    let mut lists = [0u16; 2000];
+    lists::lists_of(rows, &mut lists);
+    match first_badly_placed(rows, &lists) {
+        Search::At(r) => Found::At(r),
+        Search::Nowhere => Found::Nowhere,
+        Search::NeedsLists => Found::Nowhere,
+    }
+}
+
 // The first row badly placed of a well-formed body. Few bodies have a fallthrough, and the others
 // need no lists.
 pub fn placed(rows: &[u32]) -> Found
     requires { ⌜ Formed (now rows) ⌝ }
     ensures { λ r. ⌜ place r ≡ placing (now (rows .entry)) 0 ⌝ }
 {
-    if !has_fallthrough(rows) {
-        let none = [0u16; 1];
-        return first_badly_placed(rows, &none);
+    let none = [0u16; 0];
+    match first_badly_placed(rows, &none) {
+        Search::At(r) => Found::At(r),
+        Search::Nowhere => Found::Nowhere,
+        Search::NeedsLists => placed_by_lists(rows),
     }
-    let mut lists = [0u16; 2000];
-    lists::lists_of(rows, &mut lists);
-    first_badly_placed(rows, &lists)
 }
 
 // The first row badly placed of a well-formed body, or Well; else the refusal.

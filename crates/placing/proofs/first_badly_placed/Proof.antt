@@ -29,30 +29,38 @@ whole s = omega (arith, s .pre .0 .2 .root-size)
 loop-holds : tie.Need-loop-holds Inv-loop μ-loop
 loop-holds c = (below-none _, reach-none _ isBreakable, reach-none _ isLoop)
 
-badly-placed-requires : tie.Need-badly-placed-requires Inv-loop μ-loop
-badly-placed-requires c κs =
-    let v = c .before .loop .inv in
-    (c .before .before .before .before .pre, (c .loop-test .taken, (v .1, v .2)))
+needs-lists-requires : tie.Need-needs-lists-requires Inv-loop μ-loop
+needs-lists-requires c κs = c .loop-test .taken
 
 returns : tie.Need-returns Inv-loop μ-loop
+returns c = c .before .needs-lists .ensures .0 (c .if1 .taken)
+
+badly-placed-requires : tie.Need-badly-placed-requires Inv-loop μ-loop
+badly-placed-requires c κs =
+    let t = c .before .before in
+    let v = t .before .loop .inv in
+    let p = t .before .before .before .before .pre in
+    ((p .0, λ f. p .1 (c .before .needs-lists .ensures .1 (c .if1 .left) f)), (t .loop-test .taken, (v .1, v .2)))
+
+returns-2 : tie.Need-returns-2 Inv-loop μ-loop
 unfolding placing
-returns c =
-    let l = c .before .before .before in
+returns-2 c =
+    let l = c .before .before .before .before .before in
     let s = l .before .before .before in
     let w = s .args .rows .now in
-    sym (found-lowest (badlyPlaced w 0) (end w 0) (l .loop .r) (omega (arith, whole s, c .before .before .loop-test .taken))
-    (sym (c .before .badly-placed .ensures) ∙ c .if1 .taken) (l .loop .inv .0))
+    sym (found-lowest (badlyPlaced w 0) (end w 0) (l .loop .r) (omega (arith, whole s, c .before .before .before .before .loop-test .taken))
+    (sym (c .before .badly-placed .ensures) ∙ c .if2 .taken) (l .loop .inv .0))
 
 kind-requires : tie.Need-kind-requires Inv-loop μ-loop
-kind-requires c κs = c .before .before .loop-test .taken
+kind-requires c κs = c .before .before .before .before .loop-test .taken
 
 size-requires : tie.Need-size-requires Inv-loop μ-loop
-size-requires c κs = c .before .before .before .loop-test .taken
+size-requires c κs = c .before .before .before .before .before .loop-test .taken
 
 add-end : tie.Need-add-end Inv-loop μ-loop
 add-end c =
-    let l = c .before .before .before .before .before in
-    omega (arith, c .size .ensures, l .before .before .before .pre .0 .2 .sized .within (l .loop .r) (c .before .before .before .before .loop-test .taken))
+    let l = c .before .before .before .before .before .before .before in
+    omega (arith, c .size .ensures, l .before .before .before .pre .0 .2 .sized .within (l .loop .r) (c .before .before .before .before .before .before .loop-test .taken))
 
 is-breakable-requires : tie.Need-is-breakable-requires Inv-loop μ-loop
 is-breakable-requires c κs = tt
@@ -67,32 +75,32 @@ later-end-requires-2 : tie.Need-later-end-requires-2 Inv-loop μ-loop
 later-end-requires-2 c κs = tt
 
 add-r : tie.Need-add-r Inv-loop μ-loop
-add-r c = omega (arith, c .before .before .before .before .before .before .before .before .loop-test .taken)
+add-r c = omega (arith, c .before .before .before .before .before .before .before .before .before .before .loop-test .taken)
 
 loop-less : tie.Need-loop-less Inv-loop μ-loop
-loop-less c = omega (arith, c .before .before .before .before .before .before .before .before .loop-test .taken)
+loop-less c = omega (arith, c .before .before .before .before .before .before .before .before .before .before .loop-test .taken)
 
 loop-again : tie.Need-loop-again Inv-loop μ-loop
 loop-again c =
     let b = c .before .before .before in
     let z = b .before in
     let k = z .before in
-    let t = k .before .before .before in
+    let t = k .before .before .before .before .before in
     let l = t .before in
     let s = l .before .before .before in
     let v = l .loop .inv in
     let a = s .pre .0 .2 .details (l .loop .r) (t .loop-test .taken) in
     let e = ap (λ (n : ℕ). l .loop .r + n) (z .size .ensures) in (
-      below-more _ _ (v .0) (sym (k .before .before .badly-placed .ensures) ∙ k .before .if1 .left),
+      below-more _ _ (v .0) (sym (k .before .before .badly-placed .ensures) ∙ k .before .if2 .left),
       reach-more _ isBreakable _ _ _ _ _ (by-words isBreakable _ _ _ _ (own-breakable _ (l .loop .r)) (k .kind .ensures) a (b .is-breakable .ensures)) e (v .1)
           (c .before .before .later-end .ensures),
       reach-more _ isLoop _ _ _ _ _ (by-words isLoop _ _ _ _ (own-loop _ (l .loop .r)) (k .kind .ensures) a (c .before .is-loop .ensures)) e (v .2)
           (c .later-end2 .ensures),
     )
 
-returns-2 : tie.Need-returns-2 Inv-loop μ-loop
+returns-3 : tie.Need-returns-3 Inv-loop μ-loop
 unfolding placing
-returns-2 c =
+returns-3 c =
     let l = c .before in
     let s = l .before .before .before in
     sym (none-lowest _ _ (λ k h. l .loop .inv .0 k (omega (arith, whole s, c .loop-test .left))))
@@ -104,8 +112,10 @@ first-badly-placed-spec =
     Inv-loop
     μ-loop
     loop-holds
-    badly-placed-requires
+    needs-lists-requires
     returns
+    badly-placed-requires
+    returns-2
     kind-requires
     size-requires
     add-end
@@ -116,4 +126,4 @@ first-badly-placed-spec =
     add-r
     loop-less
     loop-again
-    returns-2)
+    returns-3)

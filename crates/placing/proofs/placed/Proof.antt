@@ -1,51 +1,49 @@
--- Without an unlabelled fallthrough the lists are not read; with one, the words that `lists_of` leaves name each row's list.
+-- Without lists the search finds the row of the definition, or comes to an unlabelled fallthrough.
 -- Assumes nothing.
+use mathlib.Core.Path.{subst}
+use native.Mathlib.Omega.{arith}
 use borrow.Author.Needs.{needs}
-use borrow.Author.Tests.{not-true}
+use Rattle.placing.specs.Searched.{Searched}
 use Rattle.placing.proofs.placed.Statement.{statement}
 use Rattle.placing.proofs.placed.Tie as tie
-
-has-fallthrough-requires : tie.Need-has-fallthrough-requires
-has-fallthrough-requires c κs = search needs
 
 slice-aggregate-first-badly-placed : tie.Need-slice-aggregate-first-badly-placed
 slice-aggregate-first-badly-placed c = search needs
 
 first-badly-placed-requires : tie.Need-first-badly-placed-requires
-first-badly-placed-requires c κs =
-    let s = c .before .before .before .before in
-    (s .pre, λ r h f. absurd (c .before .before .has-fallthrough .ensures (not-true _ (c .before .if1 .taken)) r h f))
+first-badly-placed-requires c κs = (c .before .before .pre, λ h. absurd (omega (arith, h)))
+
+enum-known-r : tie.Need-enum-known-r
+enum-known-r c = search needs
+
+enum-told : tie.Need-enum-told
+enum-told c = search needs
+
+enum-told-2 : tie.Need-enum-told-2
+enum-told-2 c = search needs
+
+placed-by-lists-requires : tie.Need-placed-by-lists-requires
+placed-by-lists-requires c κs = search needs
 
 returns : tie.Need-returns
-returns c = search needs
-
-slice-aggregate-lists-of : tie.Need-slice-aggregate-lists-of
-slice-aggregate-lists-of c = search needs
-
-lists-of-requires : tie.Need-lists-of-requires
-lists-of-requires c κs = search needs
-
-slice-aggregate-first-badly-placed-2 : tie.Need-slice-aggregate-first-badly-placed-2
-slice-aggregate-first-badly-placed-2 c = search needs
-
-first-badly-placed-requires-2 : tie.Need-first-badly-placed-requires-2
-first-badly-placed-requires-2 c κs =
-    let s = c .before .before .before .before .before .before .before in
-    (s .pre, λ r h f. record { formed = s .pre; listed = search needs; enough = search needs })
+returns c = subst (Searched _ _) (c .before .r .given .1) (c .before .before .before .first-badly-placed .ensures)
 
 returns-2 : tie.Need-returns-2
-returns-2 c = search needs
+returns-2 c = subst (Searched _ _) (c .enum-told .given .1) (c .before .before .first-badly-placed .ensures)
+
+returns-3 : tie.Need-returns-3
+returns-3 c = search needs
 
 pub placed-spec : {M : Type 1} → statement M
 placed-spec =
     tie.close
     (tie.spec
-    has-fallthrough-requires
     slice-aggregate-first-badly-placed
     first-badly-placed-requires
+    enum-known-r
+    enum-told
+    enum-told-2
+    placed-by-lists-requires
     returns
-    slice-aggregate-lists-of
-    lists-of-requires
-    slice-aggregate-first-badly-placed-2
-    first-badly-placed-requires-2
-    returns-2)
+    returns-2
+    returns-3)

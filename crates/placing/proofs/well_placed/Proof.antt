@@ -21,7 +21,7 @@ ends-case-requires : tie.Need-ends-case-requires
 ends-case-requires c κs =
     let s = c .before .before .before .before in
     let three = sym (c .before .detail .ensures) ∙ c .match .keys3 in (
-      s .pre .0 .1 _ (s .pre .1 .0 .0) (s .pre .1 .0 .1, three, s .pre .1 .0 .2),
+      s .pre .0 .1 (s .pre .1 .0 .1, three, s .pre .1 .0 .2),
       (s .pre .1 .0 .0, statement-fallthrough _ _ _ (allowed s) (s .pre .1 .0 .1) (c .before .detail .ensures) (c .match .keys3)),
     )
 
