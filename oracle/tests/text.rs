@@ -1,23 +1,9 @@
 //! Files and texts of program `marks`, and names that aren't UTF-8.
 
 use oracle::bodies::rows::body;
-use oracle::bodies::{random, Rng, Shape};
+use oracle::bodies::{example, random, Rng, Shape};
 use oracle::text::printed;
 use oracle::{file, with_utf8_names, Body};
-
-fn example() -> Body {
-    Body {
-        rows: vec![
-            [12, 0, 1, 0, 5],
-            [11, 2, 7, 1, 1],
-            [3, 0, 9, 2, 3],
-            [19, 0, 11, 0, 2],
-            [12, 0, 14, 0, 1],
-        ],
-        pairs: vec![[0, 1], [1, 1]],
-        bytes: vec![0x4D, 0x4C],
-    }
-}
 
 #[test]
 fn the_example_of_document_01() {

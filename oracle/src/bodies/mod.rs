@@ -9,6 +9,7 @@ mod random;
 mod rng;
 pub mod rows;
 mod smallest;
+mod table;
 
 pub use damage::damage;
 pub use every::every;
@@ -18,3 +19,4 @@ pub use people::people;
 pub use random::{random, Shape};
 pub use rng::Rng;
 pub use smallest::smallest;
+pub use table::{example, table};

@@ -2,9 +2,9 @@
 
 use crate::headers;
 use crate::list::List;
-use crate::table;
-use oracle::bodies::rows::{block, body, goto, label, leaf, over};
-use oracle::bodies::{at_limits, damage, every, people, random, with_any_bytes, Rng, Shape};
+use oracle::bodies::rows::{block, body, goto, leaf};
+use oracle::bodies::{at_limits, damage, every, example, people, random, table};
+use oracle::bodies::{with_any_bytes, Rng, Shape};
 use oracle::file::file;
 use oracle::{kind, Body};
 
@@ -23,7 +23,7 @@ const LIMITS: [&str; 8] = [
 pub fn all(list: &mut List) {
     let mut rng = Rng::new(1);
     list.add(&example().words());
-    table::bodies().iter().for_each(|body| list.add(&body.words()));
+    table().iter().for_each(|body| list.add(&body.words()));
     headers::add(list, &example());
     every(3, &mut |body| list.add(&body.words()));
     for _ in 0..1_500 {
@@ -38,16 +38,6 @@ pub fn all(list: &mut List) {
     }
     add_limits(list);
     add_damaged(list, &mut rng);
-}
-
-/// `{goto M;L:for{}}`, as document 01 has it.
-fn example() -> Body {
-    let items = [goto(1), label(2, over(kind::FOR, &[]))];
-    let mut body = body(&items, &["M", "L"]);
-    for (row, position) in [1, 7, 9, 11, 14].into_iter().enumerate() {
-        body.rows[row][2] = position;
-    }
-    body
 }
 
 fn small(rng: &mut Rng) -> Body {

@@ -5,7 +5,6 @@ mod chosen;
 mod headers;
 mod list;
 mod summary;
-mod table;
 
 use list::List;
 use std::process::ExitCode;

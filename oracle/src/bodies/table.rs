@@ -1,16 +1,17 @@
-//! The bodies of document 01's table.
+//! The bodies of document 01: its table, and its example for `marks`.
 
-use oracle::bodies::rows::{block, body, break_to, goto, label, leaf, over, row, Rows};
-use oracle::{branch, kind, Body};
+use super::rows::{block, body, break_to, goto, label, leaf, over, row, Rows};
+use crate::{branch, kind, Body};
 
-pub fn bodies() -> Vec<Body> {
+/// The bodies 1 to 12; 11 are two.
+pub fn table() -> [Body; 13] {
     let endless = |items: &[Rows]| over(kind::FOR, items);
     let returns = || leaf(kind::RETURN, 0);
     let nothing = [""; 0];
     let fallthrough = leaf(kind::BRANCH, branch::FALLTHROUGH);
     let default = row(kind::CASE, 1, 0, &[fallthrough]);
     let inner = block(&[label(1, returns())]);
-    vec![
+    [
         body(&[label(1, endless(&[break_to(1)]))], &["L"]),
         body(&[label(1, endless(&[])), endless(&[break_to(1)])], &["L"]),
         body(&[label(1, endless(&[label(2, endless(&[break_to(1)]))]))], &["L", "M"]),
@@ -25,4 +26,11 @@ pub fn bodies() -> Vec<Body> {
         body(&[over(kind::SWITCH, &[])], &nothing),
         body(&[over(kind::SWITCH, &[default])], &nothing),
     ]
+}
+
+/// `{goto M;L:for{}}`.
+pub fn example() -> Body {
+    let rows =
+        [[12, 0, 1, 0, 5], [11, 2, 7, 1, 1], [3, 0, 9, 2, 3], [19, 0, 11, 0, 2], [12, 0, 14, 0, 1]];
+    Body { rows: rows.to_vec(), pairs: vec![[0, 1], [1, 1]], bytes: vec![0x4D, 0x4C] }
 }
