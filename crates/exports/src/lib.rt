@@ -90,7 +90,7 @@ pub extern "C" fn zesthull_placing(
     ensures number { λ r. ⌜ r ≡ toldPlacing (placingCall (now (rows .entry)) (now (pairs .entry)) (now (bytes .entry))) .0 ⌝ }
     ensures value { λ _. ⌜ now (value .exit) ≡ toldPlacing (placingCall (now (rows .entry)) (now (pairs .entry)) (now (bytes .entry))) .1 ⌝ }
 {
-    match placing::placing_of(rows, pairs, bytes) {
+    match reader::ask_placing(rows, pairs, bytes) {
         Placing::Refused(r) => {
             *value = index_of(r);
             number_of(r)
@@ -117,7 +117,7 @@ pub extern "C" fn zesthull_verdict(
     ensures number { λ r. ⌜ r ≡ toldVerdict (verdictCall (now (rows .entry)) (now (pairs .entry)) (now (bytes .entry))) .0 ⌝ }
     ensures value { λ _. ⌜ now (value .exit) ≡ toldVerdict (verdictCall (now (rows .entry)) (now (pairs .entry)) (now (bytes .entry))) .1 ⌝ }
 {
-    match returns::verdict_of(rows, pairs, bytes) {
+    match reader::ask_verdict(rows, pairs, bytes) {
         Verdict::Refused(r) => {
             *value = index_of(r);
             number_of(r)

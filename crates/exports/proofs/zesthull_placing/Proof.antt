@@ -13,8 +13,8 @@ use borrow.Author.Needs.{needs}
 use Rattle.exports.proofs.zesthull_placing.Statement.{statement}
 use Rattle.exports.proofs.zesthull_placing.Tie as tie
 
-placing-of-requires : tie.Need-placing-of-requires
-placing-of-requires c κs = search needs
+ask-placing-requires : tie.Need-ask-placing-requires
+ask-placing-requires c κs = search needs
 
 enum-known-r : tie.Need-enum-known-r
 enum-known-r c = search needs
@@ -32,7 +32,7 @@ enum-known-row c = search needs
 bad : (c : tie.After-struct-known) →
     let s = c .before .before .before .before .before .before .before .before .args in
     answered (some (c .before .before .row .given .0 .0 .0)) ≡ placingCall (now (s .rows)) (now (s .pairs)) (now (s .bytes))
-bad c = sym (ap given (c .before .before .row .given .1)) ∙ c .before .before .before .before .placing-of .ensures
+bad c = sym (ap given (c .before .before .row .given .1)) ∙ c .before .before .before .before .ask-placing .ensures
 
 add-value : tie.Need-add-value
 add-value c = omega (arith, small-row _ _ _ _ (bad c))
@@ -43,19 +43,19 @@ enum-told c = search needs
 returns : tie.Need-returns
 returns c =
     let k = c .before .before in
-    tells toldPlacing (c .number-of .ensures) (c .before .index-of .ensures) (sym (ap given (k .before .r .given .1)) ∙ k .before .before .before .placing-of .ensures)
+    tells toldPlacing (c .number-of .ensures) (c .before .index-of .ensures) (sym (ap given (k .before .r .given .1)) ∙ k .before .before .before .ask-placing .ensures)
 
 returns-2 : tie.Need-returns-2
 returns-2 c = tells toldPlacing refl (add-one _) (bad c)
 
 returns-3 : tie.Need-returns-3
-returns-3 c = tells toldPlacing refl refl (sym (ap given (c .enum-told .given .1)) ∙ c .before .before .placing-of .ensures)
+returns-3 c = tells toldPlacing refl refl (sym (ap given (c .enum-told .given .1)) ∙ c .before .before .ask-placing .ensures)
 
 pub zesthull-placing-spec : {M : Type 1} → statement M
 zesthull-placing-spec =
     tie.close
     (tie.spec
-    placing-of-requires
+    ask-placing-requires
     enum-known-r
     index-of-requires
     number-of-requires

@@ -8,8 +8,8 @@ use borrow.Author.Needs.{needs}
 use Rattle.exports.proofs.zesthull_verdict.Statement.{statement}
 use Rattle.exports.proofs.zesthull_verdict.Tie as tie
 
-verdict-of-requires : tie.Need-verdict-of-requires
-verdict-of-requires c κs = search needs
+ask-verdict-requires : tie.Need-ask-verdict-requires
+ask-verdict-requires c κs = search needs
 
 enum-known-r : tie.Need-enum-known-r
 enum-known-r c = search needs
@@ -29,19 +29,19 @@ enum-told-2 c = search needs
 returns : tie.Need-returns
 returns c =
     let k = c .before .before in
-    tells toldVerdict (c .number-of .ensures) (c .before .index-of .ensures) (sym (ap given (k .before .r .given .1)) ∙ k .before .before .before .verdict-of .ensures)
+    tells toldVerdict (c .number-of .ensures) (c .before .index-of .ensures) (sym (ap given (k .before .r .given .1)) ∙ k .before .before .before .ask-verdict .ensures)
 
 returns-2 : tie.Need-returns-2
-returns-2 c = tells toldVerdict refl refl (sym (ap given (c .enum-told .given .1)) ∙ c .before .before .verdict-of .ensures)
+returns-2 c = tells toldVerdict refl refl (sym (ap given (c .enum-told .given .1)) ∙ c .before .before .ask-verdict .ensures)
 
 returns-3 : tie.Need-returns-3
-returns-3 c = tells toldVerdict refl refl (sym (ap given (c .enum-told2 .given .1)) ∙ c .before .before .verdict-of .ensures)
+returns-3 c = tells toldVerdict refl refl (sym (ap given (c .enum-told2 .given .1)) ∙ c .before .before .ask-verdict .ensures)
 
 pub zesthull-verdict-spec : {M : Type 1} → statement M
 zesthull-verdict-spec =
     tie.close
     (tie.spec
-    verdict-of-requires
+    ask-verdict-requires
     enum-known-r
     index-of-requires
     number-of-requires
