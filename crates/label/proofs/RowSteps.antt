@@ -63,13 +63,13 @@ module _ {w p b cs ds ls : List ℕ} (t : Tables w p b cs ds ls) (x : ℕ) (h : 
 
   -- ---- Decl and Assign
   abbrev DeclAsks : Type 0
-  DeclAsks = Listing w p b ls × (ListTable w (latestIn w p b) x d × ((x < rowCount w) × (eqb (detail w x) 1 ≡ isClass w declaration x)))
+  DeclAsks = Listing w p b ls × (Contexts w p b x d m × ((x < rowCount w) × (eqb (detail w x) 1 ≡ isClass w declaration x)))
 
   pub decl-asks : k ≡ 1 → DeclAsks
-  decl-asks i = (listing t, (contexts .latests-are, (h, decl-detail (t .body) x h k e i)))
+  decl-asks i = (listing t, (contexts, (h, decl-detail (t .body) x h k e i)))
 
   pub assign-asks : k ≡ 7 → DeclAsks
-  assign-asks i = (listing t, (contexts .latests-are, (h, assign-detail (t .body) x h k e i)))
+  assign-asks i = (listing t, (contexts, (h, assign-detail (t .body) x h k e i)))
 
   -- no label, no branch and no Block
   idle : (k ≡ 3 → ⊥) → (k ≡ 11 → ⊥) → (k ≡ 12 → ⊥) → Walked w p b (suc x) f s bs s bs hs l

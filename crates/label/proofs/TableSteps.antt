@@ -14,9 +14,12 @@ use Rattle.rules.specs.Rows.{rowCount, detail, name, size}
 use Rattle.rules.specs.Class.{declaration, labeled, class}
 use Rattle.rules.specs.Scope.{isBlock, listOf}
 use Rattle.rules.specs.Labels.{isClass, isLabel, latestDeclaration, word}
+use Rattle.rules.specs.Body.{Body}
 use Rattle.rules.proofs.Test.{case-of, case-found, clash}
 use Rattle.rules.proofs.Found.{word-found}
 use Rattle.rules.proofs.Every.{is-one}
+use Rattle.context.specs.declared.Context.{Context}
+use Rattle.context.specs.Fields.{withLatest, withLabel}
 use Rattle.tables.specs.Canon.{Tables}
 use Rattle.branches.specs.Walk.{latestIn, currentLabel}
 use Rattle.branches.proofs.CanonRows.{label-numbered, numbered-label}
@@ -26,11 +29,24 @@ use Rattle.label.proofs.ListRows.{list-before, InList, listing, block-w
 use Rattle.label.proofs.CurrentLabel.{no-list, no-label, open-label, ended-label, found}
 use Rattle.label.proofs.ContextRows.{latests-kept, latests-set, labels-kept, labels-set, latest-declaration}
 
+-- ---- the word of a row's list leads to a place in both tables
+abbrev Placed : ℕ → List ℕ → List ℕ → Type 0
+Placed list d m = (0 < list) × (list ≤ 2000) × (list ≤ length d) × (list ≤ length m)
+
+placed : {w p b d m : List ℕ} → Body w p b → (x : ℕ) → x < rowCount w → Contexts w p b x d m → (list : ℕ) → InList w x list → Placed list d m
+placed body x h contexts list j =
+    let before = j .before in (
+      j .some-row,
+      omega (arith, body .most-rows),
+      omega (arith, contexts .latests-are .room),
+      omega (arith, contexts .labels-are .room),
+    )
+
 -- ---- a Decl or Assign, whose detail v says whether it is a declaration
-module _ {w p b ls d : List ℕ} (t : Listing w p b ls) (x : ℕ) (h : x < rowCount w) (latests : ListTable w (latestIn w p b) x d)
+module _ {w p b ls d m : List ℕ} (t : Listing w p b ls) (x : ℕ) (h : x < rowCount w) (contexts : Contexts w p b x d m)
     (by-detail : eqb (detail w x) 1 ≡ isClass w declaration x) (v : ℕ) (ev : v ≡ detail w x) where
   pub not-declared : (v ≡ 1 → ⊥) → ListTable w (latestIn w p b) (suc x) d
-  not-declared n = latests-kept w p b x d (sym by-detail ∙ ne-eqb (detail w x) 1 (λ i. n (ev ∙ i))) latests
+  not-declared n = latests-kept w p b x d (sym by-detail ∙ ne-eqb (detail w x) 1 (λ i. n (ev ∙ i))) (contexts .latests-are)
 
   module _ (i : v ≡ 1) (list : ℕ) (e : list ≡ getD ls x 0) where
     declares : isClass w declaration x ≡ true
@@ -39,16 +55,22 @@ module _ {w p b ls d : List ℕ} (t : Listing w p b ls) (x : ℕ) (h : x < rowCo
     its-list : InList w x list
     its-list = let c = is-one (class w x) declaration declares in in-list t x h list e (rw c) (λ j. clash (cc))
 
-    pub declared-list : (0 < list) × (list ≤ x) × (list - 1 < length d)
-    declared-list =
-        let j = its-list in
-        (j .some-row, j .before, omega (arith, j .some-row, j .before, latests .room))
+    pub declared-list : Placed list d m
+    declared-list = placed (t .body) x h contexts list its-list
 
-    pub declared : ListTable w (latestIn w p b) (suc x) (set d (list - 1) (x + 1))
-    declared =
-        let j = its-list in
-        let before = j .before in
-        rw (add-one x) (latests-set w p b x d (list - 1) declares (j .is-list) (omega arith) latests)
+    -- the list's context before and after `declared`
+    module _ (was now : Context) (ec : now ≡ withLatest was (x + 1)) where
+      declared-row : now .latest ≡ x + 1
+      declared-row = ap (λ (y : Context). y .latest) ec
+
+      pub declared-fits : now .latest ≤ 2000
+      declared-fits = let g = declared-row in omega (arith, h, t .body .most-rows)
+
+      pub declared : ListTable w (latestIn w p b) (suc x) (set d (list - 1) (now .latest))
+      declared =
+          let j = its-list in
+          let before = j .before in
+          rw (declared-row, add-one x) (latests-set w p b x d (list - 1) declares (j .is-list) (omega arith) (contexts .latests-are))
 
 -- ---- a Labeled row; n is its canonical number
 module _ {w p b cs ds ls d m : List ℕ} (t : Tables w p b cs ds ls) (x : ℕ) (h : x < rowCount w) (c : class w x ≡ labeled) (contexts : Contexts w p b x d m)
@@ -68,27 +90,28 @@ module _ {w p b cs ds ls d m : List ℕ} (t : Tables w p b cs ds ls) (x : ℕ) (
     label-in : InList w x list
     label-in = in-list (listing t) x h list e (rw c) (λ j. clash (cc))
 
-    pub label-list : (0 < list) × (list ≤ x) × (list - 1 < length d) × (list - 1 < length m)
-    label-list =
-        let j = label-in in
-        let before = j .before in (
-          j .some-row,
-          j .before,
-          omega (arith, contexts .latests-are .room),
-          omega (arith, contexts .labels-are .room),
-        )
+    pub label-list : Placed list d m
+    label-list = placed (t .body) x h contexts list label-in
 
-    pub label-latest : (v : ℕ) → v ≡ getD d (list - 1) 0 → v ≡ word (latestDeclaration w p b 0 x)
-    label-latest v i =
-        let j = label-in in
-        let before = j .before in
-        i ∙ contexts .latests-are .at-list (list - 1) (omega arith) ∙ ap word (latest-declaration w p b x (list - 1) (j .is-list))
+    -- the list's context before and after `labelled`
+    module _ (was now : Context) (ec : now ≡ withLabel was (x + 1)) where
+      labelled-row : now .label ≡ x + 1
+      labelled-row = ap (λ (y : Context). y .label) ec
 
-    pub labelled : ListTable w (latestLabel w p b) (suc x) (set m (list - 1) (x + 1))
-    labelled =
-        let j = label-in in
-        let before = j .before in
-        rw (add-one x) (labels-set w p b x m (list - 1) labels (j .is-list) (omega arith) (contexts .labels-are))
+      pub labelled-fits : now .label ≤ 2000
+      labelled-fits = let g = labelled-row in omega (arith, h, t .body .most-rows)
+
+      pub label-latest : was .latest ≡ getD d (list - 1) 0 → now .latest ≡ word (latestDeclaration w p b 0 x)
+      label-latest i =
+          let j = label-in in
+          let before = j .before in
+          ap (λ (y : Context). y .latest) ec ∙ i ∙ contexts .latests-are .at-list (list - 1) (omega arith) ∙ ap word (latest-declaration w p b x (list - 1) (j .is-list))
+
+      pub labelled : ListTable w (latestLabel w p b) (suc x) (set m (list - 1) (now .label))
+      labelled =
+          let j = label-in in
+          let before = j .before in
+          rw (labelled-row, add-one x) (labels-set w p b x m (list - 1) labels (j .is-list) (omega arith) (contexts .labels-are))
 
 -- ---- a Block; `label` is the word of its list in the table of the labels, s the size of that label's statement
 module _ {w p b ls m : List ℕ} (t : Listing w p b ls) (x : ℕ) (h : x < rowCount w) (u : isBlock (class w x) ≡ true)

@@ -1,12 +1,13 @@
-// The walk over the rows in order, which takes the state at each row to the state at the next. What
-// a row needs of its list stands in two tables by the list's row: the list's latest declaration and
-// its latest label so far, each 1 + its row, or 0.
+// The walk over the rows in order, which takes the state at each row to the state at the next. The
+// context of a list, its latest declaration and its latest label so far, stands in two tables by the
+// list's row, each 1 + its row, or 0.
+use context::Context;
 use rows::RowNumber;
 ghost use mathlib.Core.Path.{_≡_};
 ghost use mathlib.Core.Bool.{true};
-ghost use Prim.Native.Nat.{suc, _≤_, _<_};
+ghost use Prim.Native.Nat.{suc, _-_, _≤_, _<_};
 ghost use lib.Dec.{eqb};
-ghost use lib.ListN.{length, set};
+ghost use lib.ListN.{length, getD, set};
 ghost use Rattle.rules.specs.Rows.{rowCount, detail};
 ghost use Rattle.rules.specs.Class.{declaration, labeled, class};
 ghost use Rattle.rules.specs.Scope.{isBlock};
@@ -21,24 +22,37 @@ fn wide(number: u16) -> usize
     number as usize
 }
 
+// The context of a list, which is given as 1 + its row.
+fn context_of(latests: &[u16], labels: &[u16], list: usize) -> Context
+    requires { ⌜ (0 < list) × (list ≤ 2000) × (list ≤ length (now latests)) × (list ≤ length (now labels)) ⌝ }
+    ensures { λ r. ⌜ (r .latest ≡ getD (now (latests .entry)) (list - 1) 0) × (r .label ≡ getD (now (labels .entry)) (list - 1) 0) ⌝ }
+{
+    Context {
+        latest: wide(latests[list - 1]),
+        label: wide(labels[list - 1]),
+    }
+}
+
 // A Decl or Assign: a VAR or := is the latest declaration of its list.
-fn record_var_decl(
+fn decl_branches(
     rows: &[u32],
     pairs: &[u32],
     bytes: &[u8],
     lists: &[u16],
     latests: &mut [u16],
+    labels: &[u16],
     row: RowNumber,
 )
     requires { ⌜ Listing (now rows) (now pairs) (now bytes) (now lists) ⌝ }
-    requires { ⌜ ListTable (now rows) (latestIn (now rows) (now pairs) (now bytes)) (row .0) (now latests) ⌝ }
+    requires { ⌜ Contexts (now rows) (now pairs) (now bytes) (row .0) (now latests) (now labels) ⌝ }
     requires { ⌜ (row .0 < rowCount (now rows)) × (eqb (detail (now rows) (row .0)) 1 ≡ isClass (now rows) declaration (row .0)) ⌝ }
     ensures { λ _. ⌜ ListTable (now (rows .entry)) (latestIn (now (rows .entry)) (now (pairs .entry)) (now (bytes .entry))) (suc (row .0)) (now (latests .exit)) ⌝ }
 {
     if rows::detail(rows, row) == 1 {
         let r = row.0;
         let list = wide(lists[r]);
-        latests[list - 1] = (r + 1) as u16;
+        let ctx = context::declared(context_of(latests, labels, list), r + 1);
+        latests[list - 1] = ctx.latest as u16;
     }
 }
 
@@ -121,8 +135,8 @@ fn labeled_branches(
     }
     let r = row.0;
     let list = wide(lists[r]);
-    let latest = wide(latests[list - 1]);
-    labels[list - 1] = (r + 1) as u16;
+    let ctx = context::labelled(context_of(latests, labels, list), r + 1);
+    labels[list - 1] = ctx.label as u16;
     branches::pending::label_branches(
         rows,
         pairs,
@@ -135,7 +149,7 @@ fn labeled_branches(
         heads,
         links,
         row,
-        latest,
+        ctx.latest,
         faults,
     )
 }
@@ -204,11 +218,11 @@ fn stmt_branches(
             return faults;
         }
         1 => {
-            record_var_decl(rows, pairs, bytes, lists, latests, row);
+            decl_branches(rows, pairs, bytes, lists, latests, labels, row);
             return faults;
         }
         7 => {
-            record_var_decl(rows, pairs, bytes, lists, latests, row);
+            decl_branches(rows, pairs, bytes, lists, latests, labels, row);
             return faults;
         }
         _ => faults,

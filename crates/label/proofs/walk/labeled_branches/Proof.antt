@@ -1,10 +1,10 @@
--- A row with the canonical number 0 is `_`, which is no label: nothing changes. Any other is a label, the latest of its list, and `label_branches` gets the
--- latest declaration of that list.
+-- A row with the canonical number 0 is `_`, which is no label: nothing changes. Any other is a label, the latest of its list: `labelled` puts it into the list's context and
+-- leaves the latest declaration there, which `label_branches` gets.
 -- Assumes nothing.
 use native.Mathlib.Omega.{arith}
 use borrow.Author.Needs.{needs}
 use Rattle.branches.proofs.TableRows.{canon-place}
-use Rattle.label.proofs.TableSteps.{blank, unlabelled, labels, label-list, label-latest, labelled}
+use Rattle.label.proofs.TableSteps.{blank, unlabelled, labels, label-list, labelled-fits, label-latest, labelled}
 use Rattle.label.proofs.WalkSteps.{labeled-passed}
 use Rattle.label.proofs.walk.labeled_branches.Statement.{statement}
 use Rattle.label.proofs.walk.labeled_branches.Tie as tie
@@ -33,60 +33,50 @@ shared-slice-read-wide c =
 wide-requires : tie.Need-wide-requires
 wide-requires c κs = search needs
 
-sub-wide : tie.Need-sub-wide
-sub-wide c =
-    let s = c .before .before .before .before .before .before .before .before .before .before .before .before .before .before .before .before in
-    let i = s .pre .1 .1 in
-    omega (arith, label-list (s .pre .0) _ (i .1 .0) (i .1 .1) (i .0) _ (c .before .before .before .canon-of .ensures) (c .before .before .if1 .left) _ (c .wide .ensures) .0)
-
-mul-wide-2 : tie.Need-mul-wide-2
-mul-wide-2 c =
-    let s = c .before .before .before .before .before .before .before .before .before .before .before .before .before .before .before .before in
-    let i = s .pre .1 .1 in
-    omega (arith, label-list (s .pre .0) _ (i .1 .0) (i .1 .1) (i .0) _ (c .before .before .before .canon-of .ensures) (c .before .before .if1 .left) _ (c .wide .ensures) .1, i .1 .0, s .pre .0 .body .most-rows)
-
-shared-slice-read-wide-2 : tie.Need-shared-slice-read-wide-2
-shared-slice-read-wide-2 c =
+context-of-requires : tie.Need-context-of-requires
+context-of-requires c κs =
     let s = c .before .before .before .before .before .before .before .before .before .before .before .before .before .before .before .before .before in
     let i = s .pre .1 .1 in
-    omega (arith, label-list (s .pre .0) _ (i .1 .0) (i .1 .1) (i .0) _ (c .before .before .before .before .canon-of .ensures) (c .before .before .before .if1 .left) _ (c .before .wide .ensures) .2)
+    label-list (s .pre .0) _ (i .1 .0) (i .1 .1) (i .0) _ (c .before .before .before .before .canon-of .ensures) (c .before .before .before .if1 .left) _ (c .before .wide .ensures)
 
-wide-requires-2 : tie.Need-wide-requires-2
-wide-requires-2 c κs = search needs
-
-add-labels : tie.Need-add-labels
-add-labels c =
+add-labelled : tie.Need-add-labelled
+add-labelled c =
     let s = c .before .before .before .before .before .before .before .before .before .before .before .before .before .before .before .before .before .before in
     omega (arith, s .pre .1 .1 .1 .0, s .pre .0 .body .most-rows)
+
+labelled-requires : tie.Need-labelled-requires
+labelled-requires c κs = search needs
 
 cast-labels : tie.Need-cast-labels
 cast-labels c =
-    let s = c .before .before .before .before .before .before .before .before .before .before .before .before .before .before .before .before .before .before in
-    omega (arith, s .pre .1 .1 .1 .0, s .pre .0 .body .most-rows)
+    let s = c .before .before .before .before .before .before .before .before .before .before .before .before .before .before .before .before .before .before .before .before in
+    let i = s .pre .1 .1 in
+    omega (arith, labelled-fits (s .pre .0) _ (i .1 .0) (i .1 .1) (i .0) _ (c .before .before .before .before .before .before .before .canon-of .ensures) (c .before .before .before .before .before .before .if1 .left) _ (c .before .before .before .before .wide .ensures) (c .before .before .context-of .result) _ (c .before .labelled .ensures))
 
 sub-labels : tie.Need-sub-labels
 sub-labels c =
-    let s = c .before .before .before .before .before .before .before .before .before .before .before .before .before .before .before .before .before .before in
+    let s = c .before .before .before .before .before .before .before .before .before .before .before .before .before .before .before .before .before .before .before .before in
     let i = s .pre .1 .1 in
-    omega (arith, label-list (s .pre .0) _ (i .1 .0) (i .1 .1) (i .0) _ (c .before .before .before .before .before .canon-of .ensures) (c .before .before .before .before .if1 .left) _ (c .before .before .wide .ensures) .0)
+    omega (arith, label-list (s .pre .0) _ (i .1 .0) (i .1 .1) (i .0) _ (c .before .before .before .before .before .before .before .canon-of .ensures) (c .before .before .before .before .before .before .if1 .left) _ (c .before .before .before .before .wide .ensures) .0)
 
 mul-labels : tie.Need-mul-labels
 mul-labels c =
-    let s = c .before .before .before .before .before .before .before .before .before .before .before .before .before .before .before .before .before .before in
+    let s = c .before .before .before .before .before .before .before .before .before .before .before .before .before .before .before .before .before .before .before .before in
     let i = s .pre .1 .1 in
-    omega (arith, label-list (s .pre .0) _ (i .1 .0) (i .1 .1) (i .0) _ (c .before .before .before .before .before .canon-of .ensures) (c .before .before .before .before .if1 .left) _ (c .before .before .wide .ensures) .1, i .1 .0, s .pre .0 .body .most-rows)
+    omega (arith, label-list (s .pre .0) _ (i .1 .0) (i .1 .1) (i .0) _ (c .before .before .before .before .before .before .before .canon-of .ensures) (c .before .before .before .before .before .before .if1 .left) _ (c .before .before .before .before .wide .ensures) .1)
 
 slice-write-labels : tie.Need-slice-write-labels
 slice-write-labels c =
-    let s = c .before .before .before .before .before .before .before .before .before .before .before .before .before .before .before .before .before .before in
+    let s = c .before .before .before .before .before .before .before .before .before .before .before .before .before .before .before .before .before .before .before .before in
     let i = s .pre .1 .1 in
-    omega (arith, label-list (s .pre .0) _ (i .1 .0) (i .1 .1) (i .0) _ (c .before .before .before .before .before .canon-of .ensures) (c .before .before .before .before .if1 .left) _ (c .before .before .wide .ensures) .3)
+    let l = label-list (s .pre .0) _ (i .1 .0) (i .1 .1) (i .0) _ (c .before .before .before .before .before .before .before .canon-of .ensures) (c .before .before .before .before .before .before .if1 .left) _ (c .before .before .before .before .wide .ensures) in
+    omega (arith, l .0, l .3)
 
 label-branches-requires : tie.Need-label-branches-requires
 label-branches-requires c κs =
-    let s = c .before .before .before .before .before .before .before .before .before .before .before .before .before .before .before .before .before .before .before .before .before in
+    let s = c .before .before .before .before .before .before .before .before .before .before .before .before .before .before .before .before .before .before .before .before .before .before .before in
     let i = s .pre .1 .1 in
-    (s .pre .0, (s .pre .1 .0, ((i .1 .0, labels (s .pre .0) _ (i .1 .0) (i .1 .1) (i .0) _ (c .before .before .before .before .before .before .before .before .canon-of .ensures) (c .before .before .before .before .before .before .before .if1 .left) _ (c .before .before .before .before .before .wide .ensures)), label-latest (s .pre .0) _ (i .1 .0) (i .1 .1) (i .0) _ (c .before .before .before .before .before .before .before .before .canon-of .ensures) (c .before .before .before .before .before .before .before .if1 .left) _ (c .before .before .before .before .before .wide .ensures) _ (c .before .before .before .wide2 .ensures))))
+    (s .pre .0, (s .pre .1 .0, ((i .1 .0, labels (s .pre .0) _ (i .1 .0) (i .1 .1) (i .0) _ (c .before .before .before .before .before .before .before .before .before .before .canon-of .ensures) (c .before .before .before .before .before .before .before .before .before .if1 .left) _ (c .before .before .before .before .before .before .before .wide .ensures)), label-latest (s .pre .0) _ (i .1 .0) (i .1 .1) (i .0) _ (c .before .before .before .before .before .before .before .before .before .before .canon-of .ensures) (c .before .before .before .before .before .before .before .before .before .if1 .left) _ (c .before .before .before .before .before .before .before .wide .ensures) (c .before .before .before .before .before .context-of .result) _ (c .before .before .before .before .labelled .ensures) (c .before .before .before .before .before .context-of .ensures .0))))
 
 same-length : tie.Need-same-length
 same-length c = c .before .before .before .before .before .sheet .given
@@ -102,9 +92,9 @@ same-length-4 c = search needs
 
 returns-2 : tie.Need-returns-2
 returns-2 c =
-    let s = c .before .before .before .before .before .before .before .before .before .before .before .before .before .before .before .before .before .before .before .before .before .before .before .before .before .before .before .before in
+    let s = c .before .before .before .before .before .before .before .before .before .before .before .before .before .before .before .before .before .before .before .before .before .before .before .before .before .before .before .before .before .before in
     let i = s .pre .1 .1 in
-    (c .before .before .before .before .before .before .label-branches .ensures, labelled (s .pre .0) _ (i .1 .0) (i .1 .1) (i .0) _ (c .before .before .before .before .before .before .before .before .before .before .before .before .before .before .before .canon-of .ensures) (c .before .before .before .before .before .before .before .before .before .before .before .before .before .before .if1 .left) _ (c .before .before .before .before .before .before .before .before .before .before .before .before .wide .ensures))
+    (c .before .before .before .before .before .before .label-branches .ensures, labelled (s .pre .0) _ (i .1 .0) (i .1 .1) (i .0) _ (c .before .before .before .before .before .before .before .before .before .before .before .before .before .before .before .before .before .canon-of .ensures) (c .before .before .before .before .before .before .before .before .before .before .before .before .before .before .before .before .if1 .left) _ (c .before .before .before .before .before .before .before .before .before .before .before .before .before .before .wide .ensures) (c .before .before .before .before .before .before .before .before .before .before .before .before .context-of .result) _ (c .before .before .before .before .before .before .before .before .before .before .before .labelled .ensures))
 
 pub labeled-branches-spec : {M : Type 1} → statement M
 labeled-branches-spec =
@@ -115,11 +105,9 @@ labeled-branches-spec =
     mul-wide
     shared-slice-read-wide
     wide-requires
-    sub-wide
-    mul-wide-2
-    shared-slice-read-wide-2
-    wide-requires-2
-    add-labels
+    context-of-requires
+    add-labelled
+    labelled-requires
     cast-labels
     sub-labels
     mul-labels

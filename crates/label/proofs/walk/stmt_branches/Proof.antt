@@ -75,31 +75,37 @@ returns-3 c =
     let s = c .before .before .before .before .before .before .before .before .before .before .before .before .before .before .before .before .before .before .before in
     block-gives (s .pre .0) _ (s .pre .1 .1 .1) (s .pre .1 .0) (s .pre .1 .1 .0) _ (c .before .before .before .before .before .before .kind .ensures) (c .before .before .before .before .before .match .keys3) (c .before .before .block-branches .ensures)
 
-record-var-decl-requires : tie.Need-record-var-decl-requires
-record-var-decl-requires c κs =
-    let s = c .before .before .before .before .before .before .before .before .before .before .before .before .before .before .before in
-    decl-asks (s .pre .0) _ (s .pre .1 .1 .1) (s .pre .1 .0) (s .pre .1 .1 .0) _ (c .before .before .kind .ensures) (c .before .match .keys4)
+decl-branches-requires : tie.Need-decl-branches-requires
+decl-branches-requires c κs =
+    let s = c .before .before .before .before .before .before .before .before .before .before .before .before .before .before .before .before in
+    decl-asks (s .pre .0) _ (s .pre .1 .1 .1) (s .pre .1 .0) (s .pre .1 .1 .0) _ (c .before .before .before .kind .ensures) (c .before .before .match .keys4)
 
 same-length-13 : tie.Need-same-length-13
 same-length-13 c = c .before .latests .given
 
+same-length-14 : tie.Need-same-length-14
+same-length-14 c = refl
+
 returns-4 : tie.Need-returns-4
 returns-4 c =
-    let s = c .before .before .before .before .before .before .before .before .before .before .before .before .before .before .before .before .before .before in
-    decl-gives (s .pre .0) _ (s .pre .1 .1 .1) (s .pre .1 .0) (s .pre .1 .1 .0) _ (c .before .before .before .before .before .kind .ensures) (c .before .before .before .before .match .keys4) (c .before .before .record-var-decl .ensures)
+    let s = c .before .before .before .before .before .before .before .before .before .before .before .before .before .before .before .before .before .before .before in
+    decl-gives (s .pre .0) _ (s .pre .1 .1 .1) (s .pre .1 .0) (s .pre .1 .1 .0) _ (c .before .before .before .before .before .before .kind .ensures) (c .before .before .before .before .before .match .keys4) (c .before .before .decl-branches .ensures)
 
-record-var-decl-requires-2 : tie.Need-record-var-decl-requires-2
-record-var-decl-requires-2 c κs =
-    let s = c .before .before .before .before .before .before .before .before .before .before .before .before .before .before .before in
-    assign-asks (s .pre .0) _ (s .pre .1 .1 .1) (s .pre .1 .0) (s .pre .1 .1 .0) _ (c .before .before .kind .ensures) (c .before .match .keys5)
+decl-branches-requires-2 : tie.Need-decl-branches-requires-2
+decl-branches-requires-2 c κs =
+    let s = c .before .before .before .before .before .before .before .before .before .before .before .before .before .before .before .before in
+    assign-asks (s .pre .0) _ (s .pre .1 .1 .1) (s .pre .1 .0) (s .pre .1 .1 .0) _ (c .before .before .before .kind .ensures) (c .before .before .match .keys5)
 
-same-length-14 : tie.Need-same-length-14
-same-length-14 c = c .before .latests2 .given
+same-length-15 : tie.Need-same-length-15
+same-length-15 c = c .before .latests2 .given
+
+same-length-16 : tie.Need-same-length-16
+same-length-16 c = refl
 
 returns-5 : tie.Need-returns-5
 returns-5 c =
-    let s = c .before .before .before .before .before .before .before .before .before .before .before .before .before .before .before .before .before .before in
-    assign-gives (s .pre .0) _ (s .pre .1 .1 .1) (s .pre .1 .0) (s .pre .1 .1 .0) _ (c .before .before .before .before .before .kind .ensures) (c .before .before .before .before .match .keys5) (c .before .before .record-var-decl2 .ensures)
+    let s = c .before .before .before .before .before .before .before .before .before .before .before .before .before .before .before .before .before .before .before in
+    assign-gives (s .pre .0) _ (s .pre .1 .1 .1) (s .pre .1 .0) (s .pre .1 .1 .0) _ (c .before .before .before .before .before .before .kind .ensures) (c .before .before .before .before .before .match .keys5) (c .before .before .decl-branches2 .ensures)
 
 returns-6 : tie.Need-returns-6
 returns-6 c =
@@ -129,10 +135,12 @@ stmt-branches-spec =
     same-length-11
     same-length-12
     returns-3
-    record-var-decl-requires
+    decl-branches-requires
     same-length-13
-    returns-4
-    record-var-decl-requires-2
     same-length-14
+    returns-4
+    decl-branches-requires-2
+    same-length-15
+    same-length-16
     returns-5
     returns-6)
