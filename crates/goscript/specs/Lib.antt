@@ -1,0 +1,9 @@
+pub mod Build
+pub mod Syntax
+pub mod Returns
+pub mod Block
+pub mod Context
+pub mod Checker
+pub mod Label
+pub mod Domains
+pub mod Equal
