@@ -78,7 +78,7 @@ module _ (w p b : List ℕ) (t : ℕ) where
   abbrev follows : ℕ → Bool
   follows k = ltb t k && isLabel w p b 0 k
 
-  is-last : lastInRun w p b 0 t ≡ true → (s : ℕ) × LastInRun s
+  pub is-last : lastInRun w p b 0 t ≡ true → (s : ℕ) × LastInRun s
   unfolding lastInRun
   is-last v = case-found (lowest leaves (end w t))
       (λ s e.
@@ -100,7 +100,7 @@ module _ (w p b : List ℕ) (t : ℕ) where
       ))
       (λ e. let z : false ≡ true = rw (e, lastInRun) at v in absurd (clash (cc)))
 
-  last-is : (s : ℕ) → LastInRun s → lastInRun w p b 0 t ≡ true
+  pub last-is : (s : ℕ) → LastInRun s → lastInRun w p b 0 t ≡ true
   unfolding lastInRun
   last-is s x =
       let e = found-lowest leaves (end w t) s (x .inside) (rw (lt-ltb t s (x .after), one-not (class w s) labeled (x .statement)))

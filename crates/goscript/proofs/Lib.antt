@@ -1,3 +1,10 @@
 pub mod Computed
 pub mod Table
+pub mod SameNames
 pub mod Walking
+pub mod Stacked
+pub mod BlockRows
+pub mod CurrentLabels
+pub mod Passing
+pub mod ContextRows
+pub mod ContextLists

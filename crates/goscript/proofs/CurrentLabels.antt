@@ -1,0 +1,190 @@
+-- The current label, `ctx.lstmt`, and what a labelled break finds with it. At an item it adds nothing: it is the list's own statement, which the break finds one block further out,
+-- or (in stock) the label of a statement already ended, which no break names here. Below labels it is the last of them that is not `_`, and that one alone is last in its run.
+-- Assumes nothing.
+use mathlib.Core.Path.{_≡_, refl, sym, _∙_, ap}
+use mathlib.Core.Bool.{Bool, true, false, _&&_, not}
+use mathlib.Core.List.{List, [], _∷_}
+use mathlib.Core.Option.{Option, none, some}
+use Prim.Native.Nat.{ℕ, suc, _≤_, _<_}
+use native.Mathlib.Omega.{arith}
+use native.Mathlib.Decide.{decLt, ℕ-discrete}
+use lib.Dec.{leb}
+use borrow.Author.Tests.{le-leb, not-true}
+use Rattle.rules.specs.Scan.{lowest, highest}
+use Rattle.rules.specs.Rows.{rowCount, end}
+use Rattle.rules.specs.Class.{labeled, class}
+use Rattle.rules.specs.Names.{sameBytes}
+use Rattle.rules.specs.Body.{Body}
+use Rattle.rules.specs.Scope.{holdsItems, around}
+use Rattle.rules.specs.Labels.{isSome, isLabel, labels, lastInRun, labelledBreak, sameNames}
+use Rattle.rules.proofs.Test.{case-of, case-found, clash, and-true, true-and}
+use Rattle.rules.proofs.Found.{is-none, some-is}
+use Rattle.rules.proofs.Scan.{lowest-none, found-highest}
+use Rattle.rules.proofs.Around.{around-true, true-around}
+use Rattle.rules.proofs.LabelRows.{labels-is, is-labels, other-label}
+use Rattle.branches.proofs.Downward.{highest-cut}
+use Rattle.branches.proofs.BlockLabels.{LastInRun, is-last, last-is}
+use Rattle.goscript.specs.Syntax.{ident}
+use Rattle.goscript.specs.Block.{Block, new, search, named, enclosing-target}
+use Rattle.goscript.specs.Domains.{namesEnded, noneNamesEnded}
+use Rattle.goscript.proofs.SameNames.{same-ident}
+use Rattle.goscript.proofs.Walking.{targetBefore, BlocksAt, AddsNothing, Finds}
+use Rattle.goscript.proofs.Stacked.{Stacked}
+
+module _ (w p b : List ℕ) where
+  -- ---- the innermost block is asked first
+  top-found : (n : List ℕ) (block : Block) (parents : List Block) (t : ℕ) → named w p b n (block .lstmt) ≡ some t → enclosing-target w p b n (block ∷ parents) ≡ some t
+  unfolding enclosing-target search
+  top-found n block parents t e = rw (e, search)
+
+  top-skipped : (n : List ℕ) (block : Block) (parents : List Block) → named w p b n (block .lstmt) ≡ none
+      → enclosing-target w p b n (block ∷ parents) ≡ enclosing-target w p b n parents
+  unfolding enclosing-target search
+  top-skipped n block parents e = rw (e, search)
+
+  -- a block's statement is found where it has the name
+  named-is : (t g : ℕ) (v : Bool) → sameNames w p b t g ≡ v → named w p b (ident w p b g) (some t) ≡ elim v [ true ↦ some t | false ↦ none ]
+  named-is t g v e = ap (λ (u : Bool). elim u [ true ↦ some t | false ↦ none ]) (same-ident w p b t g ∙ e)
+
+  -- ---- it adds nothing
+
+  -- no label, or the innermost block's own
+  pub adds-none : (l x : ℕ) (blocks : List Block) → AddsNothing w p b l x blocks none
+  adds-none l x blocks g h m t = top-skipped (ident w p b g) (new none) blocks refl
+
+  pub adds-own : (l x : ℕ) (block : Block) (parents : List Block) → AddsNothing w p b l x (block ∷ parents) (block .lstmt)
+  adds-own l x block parents g h m t = case-found (named w p b (ident w p b g) (block .lstmt))
+      (λ s e. top-found (ident w p b g) (new (block .lstmt)) (block ∷ parents) s e ∙ sym (top-found (ident w p b g) block parents s e))
+      (λ e. top-skipped (ident w p b g) (new (block .lstmt)) (block ∷ parents) e)
+
+  -- further on, with the same found in the blocks
+  pub adds-kept : (l x y : ℕ) (blocks blocks′ : List Block) (lstmt : Option ℕ) → x ≤ y
+      → ((n : List ℕ) → enclosing-target w p b n blocks′ ≡ enclosing-target w p b n blocks) → AddsNothing w p b l x blocks lstmt → AddsNothing w p b l y blocks′ lstmt
+  adds-kept l x y blocks blocks′ lstmt h same a g i m t = case-found (named w p b (ident w p b g) lstmt)
+      (λ s e. top-found (ident w p b g) (new lstmt) blocks′ s e ∙ sym (top-found (ident w p b g) (new lstmt) blocks s e)
+      ∙ a g (omega arith) m t ∙ sym (same (ident w p b g)))
+      (λ e. top-skipped (ident w p b g) (new lstmt) blocks′ e)
+
+  -- the label of a statement already ended, where no break names one
+  ended-not-named : (g t : ℕ) → noneNamesEnded w p b ≡ true → g < rowCount w → labelledBreak w p b 0 g ≡ true → t < g → isLabel w p b 0 t ≡ true → end w t ≤ g
+      → sameNames w p b t g ≡ false
+  unfolding noneNamesEnded namesEnded
+  ended-not-named g t d row v h u m = case-of (sameNames w p b t g)
+      (λ s.
+      let z = lowest-none (namesEnded w p b) (rowCount w) g (is-none (lowest (namesEnded w p b) (rowCount w)) (not-true (isSome (lowest (namesEnded w p b) (rowCount w))) d)) row in
+      case-found (lowest (λ t. labels w p b 0 g t && leb (end w t) g) g)
+      (λ k e. let n : false ≡ true = sym z ∙ rw (v, e, namesEnded) in absurd (clash (cc)))
+      (λ e.
+      let n = lowest-none (λ t. labels w p b 0 g t && leb (end w t) g) g t e h in
+      let y = true-and (labels w p b 0 g t) (leb (end w t) g) (labels-is w p b 0 g t u s) (le-leb (end w t) g m) in
+      absurd (clash (cc))))
+      (λ f. f)
+
+  pub adds-ended : (l x t : ℕ) (blocks : List Block) → noneNamesEnded w p b ≡ true → end w l ≤ rowCount w → isLabel w p b 0 t ≡ true → t < x → end w t ≤ x
+      → AddsNothing w p b l x blocks (some t)
+  adds-ended l x t blocks d within u h m g i n v =
+      let f = ended-not-named g t d (omega arith) v (omega arith) u (omega arith) in
+      top-skipped (ident w p b g) (new (some t)) blocks (named-is t g false f)
+
+  -- ---- the labels before a row, of which the innermost that passes is found
+  abbrev reaches : ℕ → ℕ → Bool
+  reaches g t = around w 0 g t && (labels w p b 0 g t && lastInRun w p b 0 t)
+
+  ended-fails : (g t : ℕ) → end w t ≤ g → reaches g t ≡ false
+  ended-fails g t h = case-of (around w 0 g t) (λ a. let m = around-true w 0 g t a .1 in absurd (omega arith)) (λ f. rw f)
+
+  other-fails : (g t : ℕ) → labels w p b 0 g t ≡ false → reaches g t ≡ false
+  other-fails g t f = case-of (around w 0 g t) (λ a. rw (a, f)) (λ a. rw a)
+
+  run-fails : (g t : ℕ) → lastInRun w p b 0 t ≡ false → reaches g t ≡ false
+  run-fails g t f = case-of (around w 0 g t) (λ a. rw (a, f) (case-of (labels w p b 0 g t) (λ v. rw v) (λ v. rw v))) (λ a. rw a)
+
+  no-label-fails : (g t : ℕ) → isLabel w p b 0 t ≡ false → reaches g t ≡ false
+  no-label-fails g t f = other-fails g t (case-of (labels w p b 0 g t) (λ v. let u = is-labels w p b 0 g t v .0 in absurd (clash (cc))) (λ v. v))
+
+  before-same : (x y g : ℕ) → x ≤ y → ((t : ℕ) → x ≤ t → t < y → reaches g t ≡ false) → targetBefore w p b y g ≡ targetBefore w p b x g
+  unfolding targetBefore
+  before-same x y g h f = highest-cut (reaches g) (reaches g) x y h (λ t m. refl) f
+
+module _ {w p b : List ℕ} (body : Body w p b) {l i x : ℕ} (row : l < rowCount w) (holds : holdsItems (class w l) ≡ true) (st : Stacked w l i x)
+    (blocks : List Block) (at-list : BlocksAt w p b l x blocks) where
+  -- the list's row, and what stands before the item
+  before-item : (g t : ℕ) → x < g → l ≤ t → t < i → reaches w p b g t ≡ false
+  before-item g t h m n = elim (ℕ-discrete t l) [
+    | yes e ↦ no-label-fails w p b g t (other-label w p b 0 t (λ c. let z : false ≡ true = rw (sym e, c) at holds in clash (cc)))
+    | no o ↦ ended-fails w p b g t (omega (arith, st .ended t (omega arith) n, st .upto))
+  ]
+
+  within : end w x ≤ end w l
+  within = body .nested l x row (omega (arith, st .after, st .upto)) (st .inside)
+
+  outer : (g : ℕ) → x < g → g < end w x → labelledBreak w p b 0 g ≡ true → enclosing-target w p b (ident w p b g) blocks ≡ targetBefore w p b l g
+  outer g h m v = at-list .targets g (omega (arith, st .after, st .upto)) (omega (arith, within)) v
+
+  -- no label but `_` stands on it
+  pub finds-unlabelled : (lstmt : Option ℕ) → ((k : ℕ) → i ≤ k → k < x → isLabel w p b 0 k ≡ false) → AddsNothing w p b l x blocks lstmt → Finds w p b x blocks lstmt
+  finds-unlabelled lstmt n a g h m v =
+      a g (omega arith) (omega (arith, within)) v
+      ∙ outer g h m v
+      ∙ sym (before-same w p b l x g (omega (arith, st .after, st .upto))
+      (λ t f k. elim (decLt t i) [ yes y ↦ before-item g t h f y | no o ↦ no-label-fails w p b g t (n t (omega arith) k) ]))
+
+  -- the label t does, and none but `_` between
+  module _ (t : ℕ) (from : i ≤ t) (on : t < x) (is-label : isLabel w p b 0 t ≡ true) (last : (k : ℕ) → t < k → k < x → isLabel w p b 0 k ≡ false)
+      (statement : class w x ≡ labeled → ⊥) where
+    t-last : lastInRun w p b 0 t ≡ true
+    t-last = last-is w p b t x (record {
+      after = on;
+      inside = omega (arith, st .fills t from on, body .sized .some-rows x (omega (arith, body .sized .within l row, st .inside)));
+      statement = statement;
+      run = λ k h m. st .labels-on k (omega arith) m;
+      last = last;
+    })
+
+    -- a label further out is not last in its run
+    not-last : (k : ℕ) → i ≤ k → k < t → lastInRun w p b 0 k ≡ false
+    not-last k h m = case-of (lastInRun w p b 0 k)
+        (λ v.
+        let (s, r) = is-last w p b k v in
+        elim (decLt s x) [
+          | yes y ↦ absurd (r .statement (st .labels-on s (omega (arith, r .after)) y))
+          | no o ↦ absurd (clash (cc (r .last t m (omega arith))))
+        ])
+        (λ f. f)
+
+    pub finds-labelled : Finds w p b x blocks (some t)
+    unfolding targetBefore
+    finds-labelled g h m v = case-of (sameNames w p b t g)
+        (λ s. top-found w p b (ident w p b g) (new (some t)) blocks t (named-is w p b t g true s) ∙ sym (own s))
+        (λ s. top-skipped w p b (ident w p b g) (new (some t)) blocks (named-is w p b t g false s) ∙ outer g h m v ∙ sym (others s))
+      where
+        own : sameNames w p b t g ≡ true → targetBefore w p b x g ≡ some t
+        own s = found-highest (reaches w p b g) x t on
+            (rw (true-around w 0 g t (omega arith) (omega (arith, st .fills t from on)), labels-is w p b 0 g t is-label s, t-last))
+            (λ j a n. no-label-fails w p b g j (last j a n))
+
+        others : sameNames w p b t g ≡ false → targetBefore w p b x g ≡ targetBefore w p b l g
+        others s = before-same w p b l x g (omega (arith, st .after, st .upto))
+            (λ k f n. elim (decLt k i) [
+              | yes y ↦ before-item g k h f y
+              | no o ↦ elim (decLt k t) [
+                | yes y ↦ run-fails w p b g k (not-last k (omega arith) y)
+                | no q ↦ elim (ℕ-discrete k t) [
+                  | yes e ↦ other-fails w p b g k (case-of (labels w p b 0 g k)
+                      (λ u. let z : sameNames w p b t g ≡ true = rw e at (is-labels w p b 0 g k u .1) in absurd (clash (cc)))
+                      (λ u. u))
+                  | no z ↦ no-label-fails w p b g k (last k (omega arith) n)
+                ]
+              ]
+            ])
+
+-- ---- a part of a statement that is no label finds what the statement does
+pub finds-below : (w p b : List ℕ) (x y : ℕ) (blocks : List Block) (lstmt : Option ℕ) → (class w x ≡ labeled → ⊥) → x < y → end w y ≤ end w x
+    → ((u : ℕ) → x < u → u < y → end w u ≤ y) → Finds w p b x blocks lstmt → Finds w p b y blocks lstmt
+finds-below w p b x y blocks lstmt n h m e f g i j v =
+    f g (omega arith) (omega arith) v
+    ∙ sym (before-same w p b x y g (omega arith)
+    (λ t a k. elim (ℕ-discrete t x) [
+      | yes s ↦ no-label-fails w p b g t (other-label w p b 0 t (rw s n))
+      | no o ↦ ended-fails w p b g t (omega (arith, e t (omega arith) k))
+    ]))
