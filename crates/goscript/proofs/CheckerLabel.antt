@@ -1,0 +1,160 @@
+-- What a label, not `_`, does to the checker. `declare` finds the declared label of its name before it, and reports both rows, or finds none, and places the label: then
+-- it is the declared one. `resolveAll` goes through the jumps of the list: those of the label's name are the gotos before it that it resolves, so each is bound to it,
+-- and is reported where it stands before the latest declaration of the list.
+-- Assumes nothing.
+use mathlib.Core.Path.{_≡_, refl, sym, _∙_, ap, subst}
+use mathlib.Core.Bool.{true, false, _&&_}
+use mathlib.Core.Logic.{inl, inr}
+use mathlib.Core.List.{List, _++_, append-nil, append-assoc}
+use mathlib.Core.Option.{none, some}
+use Prim.Native.Nat.{ℕ, zero, suc, _≤_, _<_}
+use native.Mathlib.Omega.{arith}
+use native.Mathlib.Decide.{ℕ-discrete, decLt}
+use lib.Dec.{ltb}
+use borrow.Author.Tests.{lt-ltb, le-ltb, ne-eqb}
+use Rattle.rules.specs.Rows.{rowCount}
+use Rattle.rules.specs.Scope.{listOf}
+use Rattle.rules.specs.Body.{Body}
+use Rattle.rules.specs.Labels.{Fault, each, is, isLabel, declared, jumpsOver, repeated}
+use Rattle.rules.proofs.Test.{case-of, case-found}
+use Rattle.rules.proofs.Each.{each-zero, each-suc}
+use Rattle.rules.proofs.Found.{found-is}
+use Rattle.rules.proofs.RowNames.{same-own}
+use Rattle.rules.proofs.LabelRows.{labels-is, some-declared}
+use Rattle.rules.proofs.SheetRows.{repeated-not, repeated-is, report-label}
+use Rattle.branches.specs.Walk.{faultsAt}
+use Rattle.branches.proofs.CanonRows.{body-end}
+use Rattle.branches.proofs.WalkFaults.{faults-suc}
+use Rattle.goscript.specs.Build.{Build}
+use Rattle.goscript.specs.Syntax.{through, contains, ident, lookup}
+use Rattle.goscript.specs.Context.{Context}
+use Rattle.goscript.specs.Checker.{Checker}
+use Rattle.goscript.specs.Label.{State, declare, resolve, resolveAll}
+use Rattle.goscript.proofs.Walking.{before, allAt, useAt, CheckerAt, jumpsAt, ContextAt}
+use Rattle.goscript.proofs.ScopeLaws.{ScopeLaws}
+use Rattle.goscript.proofs.UseRows.{contains-more, contains-own, below-other}
+use Rattle.goscript.proofs.ResolveRows.{throughEach, reports, reports-is, reports-not, Resolved, resolved}
+use Rattle.goscript.proofs.TakenRows.{waitsIn, takes, use-taken, use-waits, use-other, over-taken, over-not}
+
+-- two that agree at each number below n
+each-same : (f h : ℕ → List Fault) (n : ℕ) → ((k : ℕ) → k < n → f k ≡ h k) → each f n ≡ each h n
+each-same f h zero e = each-zero f ∙ sym (each-zero h)
+each-same f h (suc n) e = rw (each-suc f n, each-suc h n, each-same f h n (λ k l. e k (omega arith)), e n (omega arith))
+
+module _ {w p b : List ℕ} (body : Body w p b) (laws : ScopeLaws w p b) (x : ℕ) (row : x < rowCount w) (label : isLabel w p b 0 x ≡ true) where
+  -- ---- the label's own work
+  pub record Placed (c e : Checker) : Type 0 where
+    pub all-are : e .all ≡ allAt w p b (suc x)
+    pub errors-are : e .errors ≡ c .errors ++ repeated w p b 0 x
+    pub defs-are : (r : ℕ) → contains r (e .defs) ≡ (ltb r (suc x) && (isLabel w p b 0 r && is (declared w p b 0 r) r))
+    pub same-uses : e .uses ≡ c .uses
+    pub same-used : e .used ≡ c .used
+
+  own : (d : ℕ) × (declared w p b 0 x ≡ some d) × (d ≤ x)
+  own = some-declared w p b 0 x x (omega (arith, body-end body)) (labels-is w p b 0 x x label (same-own w p b x))
+
+  module _ (build : Build) (s : State) (at : CheckerAt w p b x (s .checker)) where
+    looked-up : lookup w p b (ident w p b x) (s .checker .all) ≡ before x (declared w p b 0 x)
+    looked-up = rw (at .all-are) (laws .lookup-all x x row)
+
+    -- the declared label of its name
+    first-placed : declared w p b 0 x ≡ some x → Placed (s .checker) (declare build w p b x s .checker)
+    unfolding declare
+    first-placed e =
+        let none-yet : lookup w p b (ident w p b x) (s .checker .all) ≡ none = looked-up ∙ rw (e, le-ltb x x (omega arith), before) in
+        rw (none-yet, declare) (record {
+          all-are = rw (at .all-are) (laws .all-placed x row label e);
+          errors-are = rw (repeated-not w p b 0 x e) (sym (append-nil (s .checker .errors)));
+          defs-are = λ r. elim (ℕ-discrete r x) [
+            | yes i ↦ contains-own r x (s .checker .defs) i ∙ sym (rw (i, lt-ltb x (suc x) (omega arith), label) (found-is (declared w p b 0 x) x e))
+            | no o ↦ contains-more r x (s .checker .defs) ∙ rw (ne-eqb r x o, below-other r x o) (at .defs-are r)
+          ];
+          same-uses = refl;
+          same-used = refl;
+        })
+
+    -- one more label of a name
+    again-placed : (d : ℕ) → declared w p b 0 x ≡ some d → d < x → Placed (s .checker) (declare build w p b x s .checker)
+    unfolding declare
+    again-placed d e h =
+        let n : d ≡ x → ⊥ = λ i. omega arith in
+        let found : lookup w p b (ident w p b x) (s .checker .all) ≡ some d = looked-up ∙ rw (e, lt-ltb d x h, before) in
+        rw (found, declare) (record {
+          all-are = at .all-are ∙ sym (laws .all-same x (λ t f. n (cc)));
+          errors-are = rw (repeated-is w p b 0 x d e n);
+          defs-are = λ r. at .defs-are r ∙ elim (ℕ-discrete r x) [
+            | yes i ↦ rw (i, le-ltb x x (omega arith), lt-ltb x (suc x) (omega arith), label, e) (sym (ne-eqb d x n))
+            | no o ↦ rw (below-other r x o)
+          ];
+          same-uses = refl;
+          same-used = refl;
+        })
+
+    placed : Placed (s .checker) (declare build w p b x s .checker)
+    placed =
+        let (d, e, h) = own in
+        elim (ℕ-discrete d x) [ yes i ↦ first-placed (e ∙ ap some i) | no n ↦ again-placed d e (omega arith) ]
+
+    ctx-kept : declare build w p b x s .ctx ≡ s .ctx
+    unfolding declare
+    ctx-kept = case-found (lookup w p b (ident w p b x) (s .checker .all)) (λ d e. rw (e, declare)) (λ e. rw (e, declare))
+
+  -- ---- the jumps that it resolves
+  module _ (build : Build) (l : ℕ) (listed : listOf w 0 x ≡ some l) (c e : Checker) (ctx : Context) (at : CheckerAt w p b x c) (in-list : ContextAt w p b l x ctx)
+      (first : Placed c e) where
+    abbrev after : Checker
+    after = throughEach (resolve build w p b x ctx) (waitsIn w p b l x) e x
+
+    gives : Resolved build w p b x ctx (waitsIn w p b l x) e x after
+    gives = resolved build w p b x ctx (waitsIn w p b l x) e x
+
+    abbrev found : ℕ → List Fault
+    found = reports build w p b x ctx (waitsIn w p b l x) e
+
+    reported : each found x ≡ each (jumpsOver w p b 0 x) x
+    reported = each-same found (jumpsOver w p b 0 x) x (λ g h. case-of (takes w p b l x g)
+        (λ t. reports-is build w p b x ctx (waitsIn w p b l x) e g t ∙ over-taken body l x row label listed g h ctx in-list t)
+        (λ f. reports-not build w p b x ctx (waitsIn w p b l x) e g f ∙ sym (over-not body l x row label listed g h f)))
+
+    all-errors : e .errors ++ each found x ≡ faultsAt w p b (suc x)
+    all-errors = rw (first .errors-are, at .errors-are, reported)
+        (append-assoc (faultsAt w p b x) (repeated w p b 0 x) (each (jumpsOver w p b 0 x) x) ∙ sym (faults-suc w p b x ∙ rw (report-label w p b 0 x label)))
+
+    by-taken : {G : Type 0} (g : ℕ) → (g < x → takes w p b l x g ≡ true → G) → ((g < x → takes w p b l x g ≡ false) → G) → G
+    by-taken g yes-taken not-taken = elim (decLt g x) [
+      | yes h ↦ case-of (takes w p b l x g) (λ t. yes-taken h t) (λ f. not-taken (λ m. f))
+      | no n ↦ not-taken (λ m. absurd (n m))
+    ]
+
+    -- a use before the label is one after it
+    use-stays : (g d : ℕ) → useAt w p b x g ≡ suc d → useAt w p b (suc x) g ≡ suc d
+    use-stays g d u = by-taken g
+        (λ h t. absurd (omega (arith, use-waits body l x row label listed g h t)))
+        (λ f. use-other body l x row label listed g f ∙ u)
+
+    resolved-checker : CheckerAt w p b (suc x) after
+    resolved-checker = record {
+      all-are = gives .all-same ∙ first .all-are;
+      errors-are = gives .errors-are ∙ all-errors;
+      defs-are = λ r. rw (gives .defs-same) (first .defs-are r);
+      uses-are = λ g. by-taken g
+          (λ h t. gives .taken-use g h t ∙ sym (use-taken body l x row label listed g h t))
+          (λ f. gives .other-use g f ∙ rw (first .same-uses) (at .uses-are g) ∙ sym (use-other body l x row label listed g f));
+      used-by = λ d t. elim (gives .used-cases d t) [
+        | inl u ↦ let (g, i) = at .used-by d (rw (first .same-used) at u) in (g, use-stays g d i)
+        | inr (i, (g, h, u)) ↦ (g, use-taken body l x row label listed g h u ∙ ap suc (sym i))
+      ];
+      is-used = λ d g u. by-taken g
+          (λ h t. let i : d ≡ x = omega (arith, use-taken body l x row label listed g h t) in rw i (gives .label-used g h t))
+          (λ f. gives .used-kept d (rw (first .same-used) (at .is-used d g (sym (use-other body l x row label listed g f) ∙ u))));
+    }
+
+pub label-checker : {w p b : List ℕ} (body : Body w p b) (laws : ScopeLaws w p b) (build : Build) (l x : ℕ) (s : State)
+    → x < rowCount w → isLabel w p b 0 x ≡ true → listOf w 0 x ≡ some l → CheckerAt w p b x (s .checker) → ContextAt w p b l x (s .ctx)
+    → CheckerAt w p b (suc x) (resolveAll build w p b x (declare build w p b x s) .checker)
+unfolding resolveAll jumpsAt
+label-checker {w} {p} {b} body laws build l x s row label listed at in-list =
+    let e = declare build w p b x s .checker in
+    let y = resolved-checker body laws x row label build l listed (s .checker) e (s .ctx) at in-list (placed body laws x row label build s at) in
+    rw (ctx-kept body laws x row label build s at)
+    (subst (λ (js : List ℕ). CheckerAt w p b (suc x) (through (resolve build w p b x (s .ctx)) js e)) (sym (in-list .jumps-are)) y)

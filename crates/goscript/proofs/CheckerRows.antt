@@ -1,0 +1,216 @@
+-- What a row that is no label does to the checker: it reports its faults, and a branch that is bound to a label before it records that use. Nothing else changes, since
+-- only a label is placed in the scope, has a definition, or resolves a goto before it.
+-- Assumes nothing.
+use mathlib.Core.Path.{_≡_, sym, _∙_, ap, subst}
+use mathlib.Core.Bool.{Bool, true, false, _&&_}
+use mathlib.Core.Logic.{inl, inr}
+use mathlib.Core.List.{List, [], _∷_, _++_, append-nil}
+use mathlib.Core.Option.{none, some}
+use Prim.Native.Nat.{ℕ, suc, _<_}
+use native.Mathlib.Omega.{arith}
+use native.Mathlib.Decide.{ℕ-discrete}
+use lib.Dec.{ltb}
+use borrow.Author.Tests.{lt-ltb, le-ltb}
+use Rattle.rules.specs.Rows.{rowCount, name}
+use Rattle.rules.specs.Class.{Class, break, continue, goto, fallthrough, oneOf, isBranch, class}
+use Rattle.rules.specs.Scope.{around}
+use Rattle.rules.specs.Body.{Body}
+use Rattle.rules.specs.Labels.{Fault, fault, is, word, isLabel, labels, declared, earlier, lastInRun, inBlockOf, target, labelledBreak, validTarget, report}
+use Rattle.rules.proofs.Test.{case-found, clash, and-true}
+use Rattle.rules.proofs.Scan.{highest-found}
+use Rattle.rules.proofs.ClassTests.{by-break, break-branch, branch-goto, branch-fallthrough}
+use Rattle.rules.proofs.RowNames.{goto-named}
+use Rattle.rules.proofs.LabelRows.{some-declared}
+use Rattle.rules.proofs.GotoRows.{is-earlier}
+use Rattle.rules.proofs.BreakRows.{is-valid, labelled-is, not-labelled, other-labelled}
+use Rattle.rules.proofs.BindingRows.{branch-label, binding-break, binding-invalid, binding-other}
+use Rattle.rules.proofs.SheetRows.{report-valid, report-break, report-continue, report-fallthrough, report-other}
+use Rattle.branches.specs.Walk.{bindingAt}
+use Rattle.branches.proofs.CanonRows.{body-end}
+use Rattle.branches.proofs.WalkFaults.{faults-suc}
+use Rattle.branches.proofs.WalkBindings.{at-goto, at-later, at-other, not-later, later-own, binding-same}
+use Rattle.goscript.specs.Build.{Build}
+use Rattle.goscript.specs.Syntax.{ident, lookup}
+use Rattle.goscript.specs.Checker.{Checker, error, label-set-used, record-use}
+use Rattle.goscript.specs.Label.{State, recordLabelUse}
+use Rattle.goscript.proofs.Walking.{before, allAt, useAt, CheckerAt}
+use Rattle.goscript.proofs.ScopeLaws.{ScopeLaws}
+use Rattle.goscript.proofs.UseRows.{used-own, used-other, contains-own, contains-kept, contains-cases, below-other, use-branch, use-from, use-kept, use-own}
+
+-- no errors more
+pub error-none : (c : Checker) → error [] c ≡ c
+error-none c = ap (λ (es : List Fault). record { all = c .all; used = c .used; errors = es; defs = c .defs; uses = c .uses }) (append-nil (c .errors))
+
+-- the code of a break or continue whose target is not valid
+abbrev pub breakCode : Class → ℕ
+breakCode k = elim (oneOf (break ∷ []) k) [ true ↦ 4 | false ↦ 5 ]
+
+-- the target of a branch has its name and stands before it
+target-names : (w p b : List ℕ) (x t : ℕ) → target w p b 0 x ≡ some t → (t < x) × (labels w p b 0 x t ≡ true)
+unfolding target
+target-names w p b x t e =
+    let names : ℕ → Bool = λ t. labels w p b 0 x t && (lastInRun w p b 0 t && inBlockOf w p b 0 t x) in
+    let f = highest-found (λ t. around w 0 x t && names t) x t e in
+    let a = and-true (around w 0 x t) (names t) (f .1) in
+    (f .0, and-true (labels w p b 0 x t) (lastInRun w p b 0 t && inBlockOf w p b 0 t x) (a .1) .0)
+
+module _ {w p b : List ℕ} (body : Body w p b) (laws : ScopeLaws w p b) where
+  -- ---- a row that is no label
+  module _ (x : ℕ) (n : isLabel w p b 0 x ≡ false) where
+    all-kept : allAt w p b (suc x) ≡ allAt w p b x
+    all-kept = laws .all-same x (λ t d. clash (cc))
+
+    definition-kept : (r : ℕ) → (ltb r (suc x) && (isLabel w p b 0 r && is (declared w p b 0 r) r)) ≡ (ltb r x && (isLabel w p b 0 r && is (declared w p b 0 r) r))
+    definition-kept r = elim (ℕ-discrete r x) [
+      | yes e ↦ rw (e, n, lt-ltb x (suc x) (omega arith), le-ltb x x (omega arith))
+      | no o ↦ rw (below-other r x o)
+    ]
+
+    use-before : (g : ℕ) → (g ≡ x → ⊥) → useAt w p b (suc x) g ≡ useAt w p b x g
+    use-before g o = use-kept w p b x g o (binding-same w p b x g (not-later w p b x g n))
+
+    -- one that binds nothing
+    module _ (h : isBranch (class w x) ≡ true → bindingAt w p b (suc x) x ≡ 0) where
+      use-same : (g : ℕ) → useAt w p b (suc x) g ≡ useAt w p b x g
+      use-same g = elim (ℕ-discrete g x) [ yes e ↦ rw e (use-own w p b x h) | no o ↦ use-before g o ]
+
+      at-error : (c : Checker) (fs : List Fault) → report w p b 0 x ≡ fs → CheckerAt w p b x c → CheckerAt w p b (suc x) (error fs c)
+      at-error c fs r y = record {
+        all-are = y .all-are ∙ sym all-kept;
+        errors-are = ap (λ (es : List Fault). es ++ fs) (y .errors-are) ∙ sym (faults-suc w p b x ∙ rw r);
+        defs-are = λ r. y .defs-are r ∙ sym (definition-kept r);
+        uses-are = λ g. y .uses-are g ∙ sym (use-same g);
+        used-by = λ d t. let (g, e) = y .used-by d t in (g, use-same g ∙ e);
+        is-used = λ d g e. y .is-used d g (sym (use-same g) ∙ e);
+      }
+
+  pub checker-error : (x : ℕ) (c : Checker) (fs : List Fault) → isLabel w p b 0 x ≡ false → report w p b 0 x ≡ fs
+      → (isBranch (class w x) ≡ true → bindingAt w p b (suc x) x ≡ 0) → CheckerAt w p b x c → CheckerAt w p b (suc x) (error fs c)
+  checker-error x c fs n r h y = at-error x n h c fs r y
+
+  pub checker-same : (x : ℕ) (c : Checker) → isLabel w p b 0 x ≡ false → report w p b 0 x ≡ []
+      → (isBranch (class w x) ≡ true → bindingAt w p b (suc x) x ≡ 0) → CheckerAt w p b x c → CheckerAt w p b (suc x) c
+  checker-same x c n r h y = subst (λ (e : Checker). CheckerAt w p b (suc x) e) (error-none c) (checker-error x c [] n r h y)
+
+  -- ---- a branch that is bound to the label d
+  pub checker-use : (x d : ℕ) (c : Checker) → isBranch (class w x) ≡ true → report w p b 0 x ≡ [] → bindingAt w p b (suc x) x ≡ suc d
+      → CheckerAt w p b x c → CheckerAt w p b (suc x) (record-use x d (label-set-used d c))
+  checker-use x d c t r e y = record {
+    all-are = y .all-are ∙ sym (all-kept x n);
+    errors-are = y .errors-are ∙ sym (faults-suc w p b x ∙ rw r (append-nil _));
+    defs-are = λ r. y .defs-are r ∙ sym (definition-kept x n r);
+    uses-are = λ g. elim (ℕ-discrete x g) [
+      | yes i ↦ used-own (c .uses) x d g i ∙ sym (rw (← i) own)
+      | no o ↦ used-other (c .uses) x d g o ∙ y .uses-are g ∙ sym (use-before x n g (λ i. o (sym i)))
+    ];
+    used-by = λ o u. elim (contains-cases o d (c .used) u) [
+      | inl i ↦ (x, own ∙ ap suc (sym i))
+      | inr v ↦ let (g, f) = y .used-by o v in (g, use-before x n g (not-own g o f) ∙ f)
+    ];
+    is-used = λ o g f. elim (ℕ-discrete g x) [
+      | yes i ↦ let z : useAt w p b (suc x) x ≡ suc o = rw i at f in contains-own o d (c .used) (omega (arith, own))
+      | no m ↦ contains-kept o d (c .used) (y .is-used o g (sym (use-before x n g m) ∙ f))
+    ];
+  }
+    where
+      n : isLabel w p b 0 x ≡ false
+      n = branch-label w p b 0 x t
+
+      own : useAt w p b (suc x) x ≡ suc d
+      own = use-branch w p b (suc x) x (omega arith) t ∙ e
+
+      not-own : (g o : ℕ) → useAt w p b x g ≡ suc o → g ≡ x → ⊥
+      not-own g o f i = omega (arith, use-from w p b x g (omega arith))
+
+  -- ---- the rows by class
+  module _ (x : ℕ) where
+    -- a row that is neither a label nor a branch
+    pub quiet-row : (c : Checker) → isBranch (class w x) ≡ false → isLabel w p b 0 x ≡ false → CheckerAt w p b x c → CheckerAt w p b (suc x) c
+    quiet-row c f n y = checker-same x c n
+        (report-other w p b 0 x n
+        (not-labelled w p b 0 x (λ z. clash (cc (break-branch (class w x) (z .breaks)))))
+        (λ z. clash (cc (branch-fallthrough (class w x) (z .falls-through)))))
+        (λ t. absurd (clash (cc))) y
+
+    -- a fallthrough with a label
+    pub fallthrough-labelled : (c : Checker) → class w x ≡ fallthrough → 0 < name w x → CheckerAt w p b x c → CheckerAt w p b (suc x) (error (fault w 6 x ∷ []) c)
+    fallthrough-labelled c k z y =
+        let n = branch-label w p b 0 x (branch-fallthrough (class w x) k) in
+        let m = other-labelled w p b 0 x (rw k) in
+        let o : class w x ≡ goto → ⊥ = λ e. clash (cc) in
+        checker-error x c (fault w 6 x ∷ []) n
+        (report-fallthrough w p b 0 x n m (record { from = omega arith; falls-through = k; has-name = z }))
+        (λ t. at-other w p b (suc x) x o ∙ binding-other w p b 0 x n o m) y
+
+    module _ (row : x < rowCount w) where
+      -- a branch without a label
+      pub unlabelled : (c : Checker) → isBranch (class w x) ≡ true → name w x ≡ 0 → CheckerAt w p b x c → CheckerAt w p b (suc x) c
+      unlabelled c t z y =
+          let n = branch-label w p b 0 x t in
+          let m = not-labelled w p b 0 x (λ u. omega (arith, u .has-name)) in
+          let o : class w x ≡ goto → ⊥ = λ e. omega (arith, goto-named body x row e) in
+          checker-same x c n (report-other w p b 0 x n m (λ u. omega (arith, u .has-name)))
+          (λ t. at-other w p b (suc x) x o ∙ binding-other w p b 0 x n o m) y
+
+      -- a branch bound to the declared label of its name, which stands before it
+      use-recorded : (build : Build) (s : State) (d : ℕ) → declared w p b 0 x ≡ some d → d < x → isBranch (class w x) ≡ true → report w p b 0 x ≡ []
+          → bindingAt w p b (suc x) x ≡ suc d → CheckerAt w p b x (s .checker) → CheckerAt w p b (suc x) (recordLabelUse build w p b x s .checker)
+      unfolding recordLabelUse
+      use-recorded build s d e h t r i y =
+          let found : lookup w p b (ident w p b x) (s .checker .all) ≡ some d = rw (y .all-are, laws .lookup-all x x row, e, lt-ltb d x h, before) in
+          rw (found, recordLabelUse) (checker-use x d (s .checker) t r i y)
+
+      -- a break or continue with a label
+      module _ (k : Class) (e : class w x ≡ k) (breaks : oneOf (break ∷ continue ∷ []) k ≡ true) (z : 0 < name w x) where
+        break-class : oneOf (break ∷ continue ∷ []) (class w x) ≡ true
+        break-class = rw e breaks
+
+        break-label : isLabel w p b 0 x ≡ false
+        break-label = branch-label w p b 0 x (break-branch (class w x) break-class)
+
+        break-goto : class w x ≡ goto → ⊥
+        break-goto i = let y : false ≡ true = rw i at break-class in clash (cc)
+
+        has-label : labelledBreak w p b 0 x ≡ true
+        has-label = labelled-is w p b 0 x (record { from = omega arith; breaks = break-class; has-name = z })
+
+        pub break-invalid : (c : Checker) → validTarget w p b 0 x ≡ false → CheckerAt w p b x c → CheckerAt w p b (suc x) (error (fault w (breakCode k) x ∷ []) c)
+        break-invalid c v y = checker-error x c (fault w (breakCode k) x ∷ []) break-label
+            (by-break k breaks
+            (λ i. rw i (report-break w p b 0 x break-label has-label v (e ∙ i)))
+            (λ i. rw i (report-continue w p b 0 x break-label has-label v (e ∙ i))))
+            (λ t. at-other w p b (suc x) x break-goto ∙ binding-invalid w p b 0 x break-label break-goto v) y
+
+        pub break-valid : (build : Build) (s : State) → validTarget w p b 0 x ≡ true → CheckerAt w p b x (s .checker)
+            → CheckerAt w p b (suc x) (recordLabelUse build w p b x s .checker)
+        break-valid build s v y =
+            let (t, f, u) = is-valid w p b 0 x v in
+            let (h, l) = target-names w p b x t f in
+            let (d, i, m) = some-declared w p b 0 x t (omega (arith, body-end body)) l in
+            use-recorded build s d i (omega arith) (break-branch (class w x) break-class) (report-valid w p b 0 x break-label has-label v)
+            (at-other w p b (suc x) x break-goto ∙ binding-break w p b 0 x break-label break-goto has-label v ∙ ap word i) y
+
+      -- a goto
+      module _ (k : class w x ≡ goto) where
+        goto-report : report w p b 0 x ≡ []
+        goto-report = report-other w p b 0 x (branch-label w p b 0 x (branch-goto (class w x) k)) (other-labelled w p b 0 x (rw k)) (λ y. clash (cc (y .falls-through)))
+
+        pub goto-bound : (build : Build) (s : State) (d : ℕ) → earlier w p b 0 x ≡ some d → CheckerAt w p b x (s .checker)
+            → CheckerAt w p b (suc x) (recordLabelUse build w p b x s .checker)
+        goto-bound build s d e y =
+            let i = is-earlier w p b 0 x d e in
+            use-recorded build s d (i .0) (i .1) (branch-goto (class w x) k) goto-report (at-goto w p b (suc x) x d k e) y
+
+        pub goto-waits : (c : Checker) → earlier w p b 0 x ≡ none → CheckerAt w p b x c → CheckerAt w p b (suc x) c
+        goto-waits c e y = checker-same x c (branch-label w p b 0 x (branch-goto (class w x) k)) goto-report
+            (λ t. at-later w p b (suc x) x k e ∙ ap word (later-own w p b x)) y
+
+-- ---- the rest of the state stays
+module _ (build : Build) (w p b : List ℕ) (x : ℕ) (s : State) where
+  pub uses-blocks : recordLabelUse build w p b x s .blocks ≡ s .blocks
+  unfolding recordLabelUse
+  uses-blocks = case-found (lookup w p b (ident w p b x) (s .checker .all)) (λ d e. rw (e, recordLabelUse)) (λ e. rw (e, recordLabelUse))
+
+  pub uses-ctx : recordLabelUse build w p b x s .ctx ≡ s .ctx
+  unfolding recordLabelUse
+  uses-ctx = case-found (lookup w p b (ident w p b x) (s .checker .all)) (λ d e. rw (e, recordLabelUse)) (λ e. rw (e, recordLabelUse))

@@ -1,0 +1,178 @@
+-- The rows without rows below them, and what each leaves of the walk's state: the checker, the context and the blocks, each by its own laws.
+-- Assumes nothing.
+use mathlib.Core.Path.{_≡_, refl, sym, _∙_, ap}
+use mathlib.Core.Bool.{Bool, true, false}
+use mathlib.Core.Logic.{_⊎_, inl, inr}
+use mathlib.Core.List.{List, [], _∷_, _++_}
+use mathlib.Core.Option.{Option, none, some}
+use Prim.Native.Nat.{ℕ, zero, suc, _≤_, _<_}
+use native.Mathlib.Omega.{arith}
+use native.Mathlib.Decide.{ℕ-discrete}
+use lib.Dec.{eqb}
+use borrow.Author.Tests.{eq-eqb, ne-eqb}
+use Rattle.rules.specs.Rows.{rowCount, position, name, size, end}
+use Rattle.rules.specs.Class.{Class, plain, declaration, empty, labeled, stop, break, continue, goto, fallthrough, oneOf, isBranch, isBreakable, isLoop, class}
+use Rattle.rules.specs.Body.{Body}
+use Rattle.rules.specs.Refusals.{Holding, nothing, holding}
+use Rattle.rules.specs.Scope.{isList, listOf}
+use Rattle.rules.specs.Labels.{fault, isLabel, declared, earlier, pending, needs, target, validTarget, labelledBreak as isLabelledBreak}
+use Rattle.rules.proofs.Test.{case-of, case-found, clash}
+use Rattle.rules.proofs.RowNames.{goto-named}
+use Rattle.rules.proofs.BreakRows.{valid-found, valid-none, labelled-is}
+use Rattle.rules.proofs.ClassRules.{by-one}
+use Rattle.rules.proofs.BindingRows.{branch-label}
+use Rattle.rules.proofs.LabelRows.{other-label}
+use Rattle.branches.proofs.WalkPending.{pending-other, pending-earlier}
+use Rattle.goscript.specs.Build.{Place, original, mended, Build}
+use Rattle.goscript.specs.Syntax.{ident}
+use Rattle.goscript.specs.Block.{Block, goto-target, enclosing-target}
+use Rattle.goscript.specs.Context.{Context, record-var-decl, with-jumps}
+use Rattle.goscript.specs.Checker.{Checker, error}
+use Rattle.goscript.specs.Label.{State, in-checker, in-ctx, valid, recordLabelUse, labelledBreak, gotoBranch, labelled, stmt-branches}
+use Rattle.goscript.proofs.Walking.{CheckerAt, ContextAt, BlocksAt, At}
+use Rattle.goscript.proofs.ScopeLaws.{ScopeLaws}
+use Rattle.goscript.proofs.CheckerRows.{breakCode, quiet-row, fallthrough-labelled, unlabelled, break-invalid, break-valid, goto-bound, goto-waits, uses-blocks, uses-ctx}
+use Rattle.goscript.proofs.ContextRows.{context-same, context-declares, context-waits}
+use Rattle.goscript.proofs.BlockRows.{visible-earlier, blocks-same}
+use Rattle.goscript.proofs.Stacked.{Stacked, in-the-list, target-is}
+use Rattle.goscript.proofs.Arms.{
+  isQuiet,
+  has-label,
+  has-none,
+  break-used,
+  break-reported,
+  goto-used,
+  goto-pushed,
+  at-quiet,
+  at-declaration,
+  at-break,
+  at-continue,
+  at-goto,
+  at-fallthrough,
+}
+
+-- ---- what a statement leaves
+
+-- the current label after the statement x: as before or, in stock, that of a statement in x, where x is a label
+pub data Leaves (build : Build) (w p b : List ℕ) (x : ℕ) (s s′ : State) : Type 0 where
+  kept : s′ .ctx .lstmt ≡ s .ctx .lstmt → Leaves build w p b x s s′
+  left : class w x ≡ labeled → build .A ≡ original → (t : ℕ) → s′ .ctx .lstmt ≡ some t → isLabel w p b 0 t ≡ true → t < rowCount w → end w t ≤ end w x
+      → Leaves build w p b x s s′
+
+pub record Walked (build : Build) (w p b : List ℕ) (l x : ℕ) (s s′ : State) : Type 0 where
+  pub state : At w p b l (end w x) s′
+  pub targets-kept : (n : List ℕ) → enclosing-target w p b n (s′ .blocks) ≡ enclosing-target w p b n (s .blocks)
+  pub current : Leaves build w p b x s s′
+
+module _ (build : Build) {w p b : List ℕ} (body : Body w p b) (laws : ScopeLaws w p b) (l x : ℕ) (row : x < rowCount w) (s : State) where
+  -- a row without rows below, where neither the blocks nor the current label change
+  leaf : (s′ : State) → holding (class w x) ≡ nothing → s′ .blocks ≡ s .blocks → s′ .ctx .lstmt ≡ s .ctx .lstmt
+      → CheckerAt w p b (suc x) (s′ .checker) → ContextAt w p b l (suc x) (s′ .ctx) → At w p b l x s → isLabel w p b 0 x ≡ false → Walked build w p b l x s s′
+  leaf s′ h e i c k a n =
+      let one : end w x ≡ suc x = omega (arith, body .leaf x row h) in
+      record {
+        state = rw one (record { checker = c; ctx = k; blocks = rw e (blocks-same body l x (s .blocks) (λ t d. clash (cc)) (a .blocks)) });
+        targets-kept = λ m. ap (enclosing-target w p b m) e;
+        current = kept i;
+      }
+
+  -- no goto waits there, and nothing is declared
+  same-context : isLabel w p b 0 x ≡ false → pending w p b 0 (suc x) x ≡ false → (class w x ≡ declaration → ⊥) → At w p b l x s → ContextAt w p b l (suc x) (s .ctx)
+  same-context n f d a = context-same body l x (s .ctx) n f (λ e i. d e) (a .ctx)
+
+  -- ---- rows that are neither labels nor branches
+  other-walked : isBranch (class w x) ≡ false → (class w x ≡ labeled → ⊥) → (class w x ≡ declaration → ⊥) → holding (class w x) ≡ nothing
+      → At w p b l x s → Walked build w p b l x s s
+  other-walked f m d h a =
+      let n = other-label w p b 0 x m in
+      leaf s h refl refl (quiet-row body laws x (s .checker) f n (a .checker))
+      (same-context n (pending-other w p b (suc x) x (λ e. let z : false ≡ true = sym f ∙ rw e in clash (cc))) d a) a n
+
+  pub quiet-walked : (f : ℕ) → isQuiet (class w x) ≡ true → At w p b l x s → Walked build w p b l x s (stmt-branches build w p b (suc f) x s)
+  quiet-walked f t a = rw (at-quiet build w p b f x s t) (by-one _ (plain ∷ empty ∷ stop ∷ []) (class w x) t
+      (λ e. other-walked (rw e) (λ i. clash (cc)) (λ i. clash (cc)) (rw e) a)
+      (λ e. other-walked (rw e) (λ i. clash (cc)) (λ i. clash (cc)) (rw e) a)
+      (λ e. other-walked (rw e) (λ i. clash (cc)) (λ i. clash (cc)) (rw e) a))
+
+  pub declaration-walked : (f : ℕ) → class w x ≡ declaration → listOf w 0 x ≡ some l → At w p b l x s
+      → Walked build w p b l x s (stmt-branches build w p b (suc f) x s)
+  declaration-walked f e i a =
+      let n = other-label w p b 0 x (λ c. clash (cc)) in
+      rw (at-declaration build w p b f x s e)
+      (leaf (in-ctx (record-var-decl (position w x)) s) (rw e) refl refl
+      (quiet-row body laws x (s .checker) (rw e) n (a .checker)) (context-declares body l x (s .ctx) e i (a .ctx)) a n)
+
+  -- ---- branches
+  module _ (t : isBranch (class w x) ≡ true) (h : holding (class w x) ≡ nothing) (d : class w x ≡ declaration → ⊥) (a : At w p b l x s) where
+    no-label : isLabel w p b 0 x ≡ false
+    no-label = branch-label w p b 0 x t
+
+    -- the checker alone changes, and no goto waits
+    branch-walked : (s′ : State) → s′ .blocks ≡ s .blocks → s′ .ctx ≡ s .ctx → pending w p b 0 (suc x) x ≡ false → CheckerAt w p b (suc x) (s′ .checker)
+        → Walked build w p b l x s s′
+    branch-walked s′ e i f c = leaf s′ h e (ap (λ (k : Context). k .lstmt) i) c (rw i (same-context no-label f d a)) a no-label
+
+    -- without a label nothing does
+    unlabelled-walked : (s′ : State) → (class w x ≡ goto → ⊥) → name w x ≡ 0 → Walked build w p b l x s (labelled build w p b x s′ s)
+    unlabelled-walked s′ n z = rw (has-none build w p b x s s′ z)
+        (branch-walked s refl refl (pending-other w p b (suc x) x n) (unlabelled body laws x row (s .checker) t z (a .checker)))
+
+  pub fallthrough-walked : (f : ℕ) → class w x ≡ fallthrough → At w p b l x s → Walked build w p b l x s (stmt-branches build w p b (suc f) x s)
+  fallthrough-walked f e a = rw (at-fallthrough build w p b f x s e) (elim (ℕ-discrete (name w x) 0) [
+    | yes z ↦ unlabelled-walked (rw e) (rw e) (λ c. clash (cc)) a _ (λ c. clash (cc)) z
+    | no n ↦ rw (has-label build w p b x s (in-checker (error (fault w 6 x ∷ [])) s) n)
+        (branch-walked (rw e) (rw e) (λ c. clash (cc)) a (in-checker (error (fault w 6 x ∷ [])) s) refl refl (pending-other w p b (suc x) x (λ c. clash (cc)))
+        (fallthrough-labelled body laws x (s .checker) e (omega arith) (a .checker)))
+  ])
+
+  -- a goto binds to what it sees, or waits
+  pub goto-walked : (f : ℕ) → class w x ≡ goto → l < x → x < end w l → At w p b l x s → Walked build w p b l x s (stmt-branches build w p b (suc f) x s)
+  goto-walked f e h m a =
+      rw (at-goto build w p b f x s e, has-label build w p b x s (gotoBranch build w p b x s) (λ z. omega (arith, goto-named body x row e)))
+      (case-found (earlier w p b 0 x) bound waits)
+    where
+      sees : goto-target w p b (ident w p b x) (s .blocks) ≡ earlier w p b 0 x
+      sees = a .blocks .gotos x h (omega arith) m ∙ visible-earlier w p b x
+
+      bound : (t : ℕ) → earlier w p b 0 x ≡ some t → Walked build w p b l x s (gotoBranch build w p b x s)
+      bound t i = rw (goto-used build w p b x s t (sees ∙ i)) (branch-walked (rw e) (rw e) (λ c. clash (cc)) a (recordLabelUse build w p b x s)
+          (uses-blocks build w p b x s) (uses-ctx build w p b x s) (pending-earlier w p b (suc x) x t i) (goto-bound body laws x row e build s t i (a .checker)))
+
+      waits : earlier w p b 0 x ≡ none → Walked build w p b l x s (gotoBranch build w p b x s)
+      waits i = rw (goto-pushed build w p b x s (sees ∙ i)) (leaf (in-ctx (with-jumps (s .ctx .fwd-jumps ++ x ∷ [])) s) (rw e) refl refl
+          (goto-waits body laws x row e (s .checker) i (a .checker)) (context-waits body l x (s .ctx) h e i (a .ctx)) a (no-label (rw e) (rw e) (λ c. clash (cc)) a))
+
+  -- a break or continue is bound where its target is of the kinds that it needs
+  module _ (k : Class) (kinds : Class → Bool) (e : class w x ≡ k) (breaks : oneOf (break ∷ continue ∷ []) k ≡ true) (same : (c : Class) → needs k c ≡ kinds c)
+      (t : isBranch (class w x) ≡ true) (h : holding (class w x) ≡ nothing) (d : class w x ≡ declaration → ⊥) (n : class w x ≡ goto → ⊥)
+      {i : ℕ} (in-rows : l < rowCount w) (lists : isList (class w l) ≡ true) (st : Stacked w l i x) (a : At w p b l x s) where
+    its-target : 0 < name w x → enclosing-target w p b (ident w p b x) (s .blocks) ≡ target w p b 0 x
+    its-target z =
+        a .blocks .targets x (omega (arith, st .after, st .upto)) (st .inside) (labelled-is w p b 0 x (record { from = omega arith; breaks = rw e breaks; has-name = z }))
+        ∙ sym (target-is body in-rows lists st)
+
+    valid-same : 0 < name w x → valid w kinds (enclosing-target w p b (ident w p b x) (s .blocks)) ≡ validTarget w p b 0 x
+    valid-same z = ap (valid w kinds) (its-target z) ∙ case-found (target w p b 0 x)
+        (λ g f. rw f (sym (valid-found w p b 0 x g f ∙ ap (λ (c : Class). needs c (class w (suc g))) e ∙ same (class w (suc g)))))
+        (λ f. rw f (sym (valid-none w p b 0 x f)))
+
+    break-walked : Walked build w p b l x s (labelled build w p b x (labelledBreak build w p b kinds (breakCode k) x s) s)
+    break-walked = elim (ℕ-discrete (name w x) 0) [
+      | yes z ↦ unlabelled-walked t h d a _ n z
+      | no o ↦ rw (has-label build w p b x s (labelledBreak build w p b kinds (breakCode k) x s) o) (case-of (validTarget w p b 0 x)
+          (λ v. rw (break-used build w p b x s kinds (breakCode k) (valid-same (omega arith) ∙ v)) (branch-walked t h d a (recordLabelUse build w p b x s)
+          (uses-blocks build w p b x s) (uses-ctx build w p b x s) (pending-other w p b (suc x) x n)
+          (break-valid body laws x row k e breaks (omega arith) build s v (a .checker))))
+          (λ v. rw (break-reported build w p b x s kinds (breakCode k) (valid-same (omega arith) ∙ v)) (branch-walked t h d a
+          (in-checker (error (fault w (breakCode k) x ∷ [])) s) refl refl (pending-other w p b (suc x) x n)
+          (break-invalid body laws x row k e breaks (omega arith) (s .checker) v (a .checker)))))
+    ]
+
+  module _ (f : ℕ) {i : ℕ} (in-rows : l < rowCount w) (lists : isList (class w l) ≡ true) (st : Stacked w l i x) (a : At w p b l x s) where
+    pub breaks-walked : class w x ≡ break → Walked build w p b l x s (stmt-branches build w p b (suc f) x s)
+    breaks-walked e = rw (at-break build w p b f x s e)
+        (break-walked break isBreakable e refl (λ c. refl) (rw e) (rw e) (λ i. clash (cc)) (λ i. clash (cc)) in-rows lists st a)
+
+    pub continues-walked : class w x ≡ continue → Walked build w p b l x s (stmt-branches build w p b (suc f) x s)
+    continues-walked e = rw (at-continue build w p b f x s e)
+        (break-walked continue isLoop e refl (λ c. refl) (rw e) (rw e) (λ i. clash (cc)) (λ i. clash (cc)) in-rows lists st a)
