@@ -41,10 +41,10 @@ use Rattle.rules.specs.Class.{
 use Rattle.rules.specs.Scope.{isBlock}
 use Rattle.rules.specs.Labels.{fault}
 use Rattle.rules.proofs.ClassRules.{by-one}
-use Rattle.goscript.specs.Build.{Build}
+use Rattle.goscript.specs.Build.{Place, original, mended, Build}
 use Rattle.goscript.specs.Syntax.{through, list, ident}
 use Rattle.goscript.specs.Block.{Block, new as newBlock, goto-target, enclosing-target}
-use Rattle.goscript.specs.Context.{new as newContext, record-var-decl, with-jumps}
+use Rattle.goscript.specs.Context.{new as newContext, record-var-decl, with-jumps, with-lstmt}
 use Rattle.goscript.specs.Checker.{Checker, error}
 use Rattle.goscript.specs.Label.{
   State,
@@ -113,6 +113,14 @@ arm select = one-part refl
 arm for = one-part refl
 arm forCond = one-part refl
 arm ifElse = two-parts refl
+
+-- ---- A
+module _ (build : Build) (lstmt : Option ℕ) (s : State) where
+  pub stays : build .A ≡ original → afterLabeled build lstmt s ≡ s
+  stays q = rw (q, afterLabeled)
+
+  pub put-back : build .A ≡ mended → afterLabeled build lstmt s ≡ in-ctx (with-lstmt lstmt) s
+  put-back q = rw (q, afterLabeled)
 
 module _ (build : Build) (w p b : List ℕ) where
   -- ---- a list

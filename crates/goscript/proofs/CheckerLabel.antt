@@ -31,7 +31,7 @@ use Rattle.goscript.specs.Context.{Context}
 use Rattle.goscript.specs.Checker.{Checker}
 use Rattle.goscript.specs.Label.{State, declare, resolve, resolveAll}
 use Rattle.goscript.proofs.Walking.{before, allAt, useAt, CheckerAt, jumpsAt, ContextAt}
-use Rattle.goscript.proofs.ScopeLaws.{ScopeLaws}
+use Rattle.goscript.proofs.ScopeRows.{all-placed, all-same, lookup-all}
 use Rattle.goscript.proofs.UseRows.{contains-more, contains-own, below-other}
 use Rattle.goscript.proofs.ResolveRows.{throughEach, reports, reports-is, reports-not, Resolved, resolved}
 use Rattle.goscript.proofs.TakenRows.{waitsIn, takes, use-taken, use-waits, use-other, over-taken, over-not}
@@ -41,21 +41,26 @@ each-same : (f h : ℕ → List Fault) (n : ℕ) → ((k : ℕ) → k < n → f 
 each-same f h zero e = each-zero f ∙ sym (each-zero h)
 each-same f h (suc n) e = rw (each-suc f n, each-suc h n, each-same f h n (λ k l. e k (omega arith)), e n (omega arith))
 
-module _ {w p b : List ℕ} (body : Body w p b) (laws : ScopeLaws w p b) (x : ℕ) (row : x < rowCount w) (label : isLabel w p b 0 x ≡ true) where
+-- `declare` leaves the context as it is
+pub declare-ctx : (build : Build) (w p b : List ℕ) (x : ℕ) (s : State) → declare build w p b x s .ctx ≡ s .ctx
+unfolding declare
+declare-ctx build w p b x s = case-found (lookup w p b (ident w p b x) (s .checker .all)) (λ d e. rw (e, declare)) (λ e. rw (e, declare))
+
+module _ {w p b : List ℕ} (body : Body w p b) (x : ℕ) (row : x < rowCount w) (label : isLabel w p b 0 x ≡ true) where
   -- ---- the label's own work
-  pub record Placed (c e : Checker) : Type 0 where
-    pub all-are : e .all ≡ allAt w p b (suc x)
-    pub errors-are : e .errors ≡ c .errors ++ repeated w p b 0 x
-    pub defs-are : (r : ℕ) → contains r (e .defs) ≡ (ltb r (suc x) && (isLabel w p b 0 r && is (declared w p b 0 r) r))
-    pub same-uses : e .uses ≡ c .uses
-    pub same-used : e .used ≡ c .used
+  record Placed (c e : Checker) : Type 0 where
+    all-are : e .all ≡ allAt w p b (suc x)
+    errors-are : e .errors ≡ c .errors ++ repeated w p b 0 x
+    defs-are : (r : ℕ) → contains r (e .defs) ≡ (ltb r (suc x) && (isLabel w p b 0 r && is (declared w p b 0 r) r))
+    same-uses : e .uses ≡ c .uses
+    same-used : e .used ≡ c .used
 
   own : (d : ℕ) × (declared w p b 0 x ≡ some d) × (d ≤ x)
   own = some-declared w p b 0 x x (omega (arith, body-end body)) (labels-is w p b 0 x x label (same-own w p b x))
 
   module _ (build : Build) (s : State) (at : CheckerAt w p b x (s .checker)) where
     looked-up : lookup w p b (ident w p b x) (s .checker .all) ≡ before x (declared w p b 0 x)
-    looked-up = rw (at .all-are) (laws .lookup-all x x row)
+    looked-up = rw (at .all-are) (lookup-all body x x row)
 
     -- the declared label of its name
     first-placed : declared w p b 0 x ≡ some x → Placed (s .checker) (declare build w p b x s .checker)
@@ -63,7 +68,7 @@ module _ {w p b : List ℕ} (body : Body w p b) (laws : ScopeLaws w p b) (x : �
     first-placed e =
         let none-yet : lookup w p b (ident w p b x) (s .checker .all) ≡ none = looked-up ∙ rw (e, le-ltb x x (omega arith), before) in
         rw (none-yet, declare) (record {
-          all-are = rw (at .all-are) (laws .all-placed x row label e);
+          all-are = rw (at .all-are) (all-placed body x row label e);
           errors-are = rw (repeated-not w p b 0 x e) (sym (append-nil (s .checker .errors)));
           defs-are = λ r. elim (ℕ-discrete r x) [
             | yes i ↦ contains-own r x (s .checker .defs) i ∙ sym (rw (i, lt-ltb x (suc x) (omega arith), label) (found-is (declared w p b 0 x) x e))
@@ -80,7 +85,7 @@ module _ {w p b : List ℕ} (body : Body w p b) (laws : ScopeLaws w p b) (x : �
         let n : d ≡ x → ⊥ = λ i. omega arith in
         let found : lookup w p b (ident w p b x) (s .checker .all) ≡ some d = looked-up ∙ rw (e, lt-ltb d x h, before) in
         rw (found, declare) (record {
-          all-are = at .all-are ∙ sym (laws .all-same x (λ t f. n (cc)));
+          all-are = at .all-are ∙ sym (all-same body x (λ t f. n (cc)));
           errors-are = rw (repeated-is w p b 0 x d e n);
           defs-are = λ r. at .defs-are r ∙ elim (ℕ-discrete r x) [
             | yes i ↦ rw (i, le-ltb x x (omega arith), lt-ltb x (suc x) (omega arith), label, e) (sym (ne-eqb d x n))
@@ -95,10 +100,6 @@ module _ {w p b : List ℕ} (body : Body w p b) (laws : ScopeLaws w p b) (x : �
         let (d, e, h) = own in
         elim (ℕ-discrete d x) [ yes i ↦ first-placed (e ∙ ap some i) | no n ↦ again-placed d e (omega arith) ]
 
-    ctx-kept : declare build w p b x s .ctx ≡ s .ctx
-    unfolding declare
-    ctx-kept = case-found (lookup w p b (ident w p b x) (s .checker .all)) (λ d e. rw (e, declare)) (λ e. rw (e, declare))
-
   -- ---- the jumps that it resolves
   module _ (build : Build) (l : ℕ) (listed : listOf w 0 x ≡ some l) (c e : Checker) (ctx : Context) (at : CheckerAt w p b x c) (in-list : ContextAt w p b l x ctx)
       (first : Placed c e) where
@@ -109,12 +110,12 @@ module _ {w p b : List ℕ} (body : Body w p b) (laws : ScopeLaws w p b) (x : �
     gives = resolved build w p b x ctx (waitsIn w p b l x) e x
 
     abbrev found : ℕ → List Fault
-    found = reports build w p b x ctx (waitsIn w p b l x) e
+    found = reports w p b x ctx (waitsIn w p b l x)
 
     reported : each found x ≡ each (jumpsOver w p b 0 x) x
     reported = each-same found (jumpsOver w p b 0 x) x (λ g h. case-of (takes w p b l x g)
-        (λ t. reports-is build w p b x ctx (waitsIn w p b l x) e g t ∙ over-taken body l x row label listed g h ctx in-list t)
-        (λ f. reports-not build w p b x ctx (waitsIn w p b l x) e g f ∙ sym (over-not body l x row label listed g h f)))
+        (λ t. reports-is w p b x ctx (waitsIn w p b l x) g t ∙ over-taken body l x row label listed g h ctx in-list t)
+        (λ f. reports-not w p b x ctx (waitsIn w p b l x) g f ∙ sym (over-not body l x row label listed g h f)))
 
     all-errors : e .errors ++ each found x ≡ faultsAt w p b (suc x)
     all-errors = rw (first .errors-are, at .errors-are, reported)
@@ -149,12 +150,12 @@ module _ {w p b : List ℕ} (body : Body w p b) (laws : ScopeLaws w p b) (x : �
           (λ f. gives .used-kept d (rw (first .same-used) (at .is-used d g (sym (use-other body l x row label listed g f) ∙ u))));
     }
 
-pub label-checker : {w p b : List ℕ} (body : Body w p b) (laws : ScopeLaws w p b) (build : Build) (l x : ℕ) (s : State)
+pub label-checker : {w p b : List ℕ} (body : Body w p b) (build : Build) (l x : ℕ) (s : State)
     → x < rowCount w → isLabel w p b 0 x ≡ true → listOf w 0 x ≡ some l → CheckerAt w p b x (s .checker) → ContextAt w p b l x (s .ctx)
     → CheckerAt w p b (suc x) (resolveAll build w p b x (declare build w p b x s) .checker)
 unfolding resolveAll jumpsAt
-label-checker {w} {p} {b} body laws build l x s row label listed at in-list =
+label-checker {w} {p} {b} body build l x s row label listed at in-list =
     let e = declare build w p b x s .checker in
-    let y = resolved-checker body laws x row label build l listed (s .checker) e (s .ctx) at in-list (placed body laws x row label build s at) in
-    rw (ctx-kept body laws x row label build s at)
+    let y = resolved-checker body x row label build l listed (s .checker) e (s .ctx) at in-list (placed body x row label build s at) in
+    rw (declare-ctx build w p b x s)
     (subst (λ (js : List ℕ). CheckerAt w p b (suc x) (through (resolve build w p b x (s .ctx)) js e)) (sym (in-list .jumps-are)) y)

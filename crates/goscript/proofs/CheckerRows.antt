@@ -34,10 +34,10 @@ use Rattle.goscript.specs.Syntax.{ident, lookup}
 use Rattle.goscript.specs.Checker.{Checker, error, label-set-used, record-use}
 use Rattle.goscript.specs.Label.{State, recordLabelUse}
 use Rattle.goscript.proofs.Walking.{before, allAt, useAt, CheckerAt}
-use Rattle.goscript.proofs.ScopeLaws.{ScopeLaws}
+use Rattle.goscript.proofs.ScopeRows.{all-same, lookup-all}
 use Rattle.goscript.proofs.UseRows.{used-own, used-other, contains-own, contains-kept, contains-cases, below-other, use-branch, use-from, use-kept, use-own}
 
--- no errors more
+-- no error more
 pub error-none : (c : Checker) → error [] c ≡ c
 error-none c = ap (λ (es : List Fault). record { all = c .all; used = c .used; errors = es; defs = c .defs; uses = c .uses }) (append-nil (c .errors))
 
@@ -54,11 +54,11 @@ target-names w p b x t e =
     let a = and-true (around w 0 x t) (names t) (f .1) in
     (f .0, and-true (labels w p b 0 x t) (lastInRun w p b 0 t && inBlockOf w p b 0 t x) (a .1) .0)
 
-module _ {w p b : List ℕ} (body : Body w p b) (laws : ScopeLaws w p b) where
+module _ {w p b : List ℕ} (body : Body w p b) where
   -- ---- a row that is no label
   module _ (x : ℕ) (n : isLabel w p b 0 x ≡ false) where
     all-kept : allAt w p b (suc x) ≡ allAt w p b x
-    all-kept = laws .all-same x (λ t d. clash (cc))
+    all-kept = all-same body x (λ t d. clash (cc))
 
     definition-kept : (r : ℕ) → (ltb r (suc x) && (isLabel w p b 0 r && is (declared w p b 0 r) r)) ≡ (ltb r x && (isLabel w p b 0 r && is (declared w p b 0 r) r))
     definition-kept r = elim (ℕ-discrete r x) [
@@ -69,25 +69,23 @@ module _ {w p b : List ℕ} (body : Body w p b) (laws : ScopeLaws w p b) where
     use-before : (g : ℕ) → (g ≡ x → ⊥) → useAt w p b (suc x) g ≡ useAt w p b x g
     use-before g o = use-kept w p b x g o (binding-same w p b x g (not-later w p b x g n))
 
-    -- one that binds nothing
-    module _ (h : isBranch (class w x) ≡ true → bindingAt w p b (suc x) x ≡ 0) where
-      use-same : (g : ℕ) → useAt w p b (suc x) g ≡ useAt w p b x g
-      use-same g = elim (ℕ-discrete g x) [ yes e ↦ rw e (use-own w p b x h) | no o ↦ use-before g o ]
+    -- where it is bound to nothing
+    use-same : (isBranch (class w x) ≡ true → bindingAt w p b (suc x) x ≡ 0) → (g : ℕ) → useAt w p b (suc x) g ≡ useAt w p b x g
+    use-same h g = elim (ℕ-discrete g x) [ yes e ↦ rw e (use-own w p b x h) | no o ↦ use-before g o ]
 
-      at-error : (c : Checker) (fs : List Fault) → report w p b 0 x ≡ fs → CheckerAt w p b x c → CheckerAt w p b (suc x) (error fs c)
-      at-error c fs r y = record {
-        all-are = y .all-are ∙ sym all-kept;
-        errors-are = ap (λ (es : List Fault). es ++ fs) (y .errors-are) ∙ sym (faults-suc w p b x ∙ rw r);
-        defs-are = λ r. y .defs-are r ∙ sym (definition-kept r);
-        uses-are = λ g. y .uses-are g ∙ sym (use-same g);
-        used-by = λ d t. let (g, e) = y .used-by d t in (g, use-same g ∙ e);
-        is-used = λ d g e. y .is-used d g (sym (use-same g) ∙ e);
-      }
-
+  -- one that reports these faults and is bound to nothing
   pub checker-error : (x : ℕ) (c : Checker) (fs : List Fault) → isLabel w p b 0 x ≡ false → report w p b 0 x ≡ fs
       → (isBranch (class w x) ≡ true → bindingAt w p b (suc x) x ≡ 0) → CheckerAt w p b x c → CheckerAt w p b (suc x) (error fs c)
-  checker-error x c fs n r h y = at-error x n h c fs r y
+  checker-error x c fs n r h y = record {
+    all-are = y .all-are ∙ sym (all-kept x n);
+    errors-are = ap (λ (es : List Fault). es ++ fs) (y .errors-are) ∙ sym (faults-suc w p b x ∙ rw r);
+    defs-are = λ r. y .defs-are r ∙ sym (definition-kept x n r);
+    uses-are = λ g. y .uses-are g ∙ sym (use-same x n h g);
+    used-by = λ d t. let (g, e) = y .used-by d t in (g, use-same x n h g ∙ e);
+    is-used = λ d g e. y .is-used d g (sym (use-same x n h g) ∙ e);
+  }
 
+  -- none at all
   pub checker-same : (x : ℕ) (c : Checker) → isLabel w p b 0 x ≡ false → report w p b 0 x ≡ []
       → (isBranch (class w x) ≡ true → bindingAt w p b (suc x) x ≡ 0) → CheckerAt w p b x c → CheckerAt w p b (suc x) c
   checker-same x c n r h y = subst (λ (e : Checker). CheckerAt w p b (suc x) e) (error-none c) (checker-error x c [] n r h y)
@@ -157,7 +155,7 @@ module _ {w p b : List ℕ} (body : Body w p b) (laws : ScopeLaws w p b) where
           → bindingAt w p b (suc x) x ≡ suc d → CheckerAt w p b x (s .checker) → CheckerAt w p b (suc x) (recordLabelUse build w p b x s .checker)
       unfolding recordLabelUse
       use-recorded build s d e h t r i y =
-          let found : lookup w p b (ident w p b x) (s .checker .all) ≡ some d = rw (y .all-are, laws .lookup-all x x row, e, lt-ltb d x h, before) in
+          let found : lookup w p b (ident w p b x) (s .checker .all) ≡ some d = rw (y .all-are, lookup-all body x x row, e, lt-ltb d x h, before) in
           rw (found, recordLabelUse) (checker-use x d (s .checker) t r i y)
 
       -- a break or continue with a label

@@ -65,6 +65,13 @@ module _ (w p b : List ℕ) where
       ∙ a g (omega arith) m t ∙ sym (same (ident w p b g)))
       (λ e. top-skipped (ident w p b g) (new lstmt) blocks′ e)
 
+  -- and so with any label
+  pub finds-kept : (x : ℕ) (blocks blocks′ : List Block) (lstmt : Option ℕ) → ((n : List ℕ) → enclosing-target w p b n blocks′ ≡ enclosing-target w p b n blocks)
+      → Finds w p b x blocks lstmt → Finds w p b x blocks′ lstmt
+  finds-kept x blocks blocks′ lstmt same f g h m t = case-found (named w p b (ident w p b g) lstmt)
+      (λ s e. top-found (ident w p b g) (new lstmt) blocks′ s e ∙ sym (top-found (ident w p b g) (new lstmt) blocks s e) ∙ f g h m t)
+      (λ e. top-skipped (ident w p b g) (new lstmt) blocks′ e ∙ same (ident w p b g) ∙ sym (top-skipped (ident w p b g) (new lstmt) blocks e) ∙ f g h m t)
+
   -- the label of a statement already ended, where no break names one
   ended-not-named : (g t : ℕ) → noneNamesEnded w p b ≡ true → g < rowCount w → labelledBreak w p b 0 g ≡ true → t < g → isLabel w p b 0 t ≡ true → end w t ≤ g
       → sameNames w p b t g ≡ false

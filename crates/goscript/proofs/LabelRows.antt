@@ -21,7 +21,7 @@ use Rattle.goscript.specs.Syntax.{ident, lookup}
 use Rattle.goscript.specs.Block.{insert, enclosing-target}
 use Rattle.goscript.specs.Label.{State, declare, resolveAll}
 use Rattle.goscript.proofs.Walking.{before, BlocksAt, At}
-use Rattle.goscript.proofs.ScopeLaws.{ScopeLaws}
+use Rattle.goscript.proofs.ScopeRows.{lookup-all}
 use Rattle.goscript.proofs.CheckerLabel.{label-checker}
 use Rattle.goscript.proofs.ContextRows.{context-label}
 use Rattle.goscript.proofs.BlockRows.{insert-targets, blocks-same, blocks-declare}
@@ -30,11 +30,11 @@ use Rattle.goscript.proofs.BlockRows.{insert-targets, blocks-same, bloc
 abbrev pub entered : Build → List ℕ → List ℕ → List ℕ → ℕ → State → State
 entered build w p b x s = resolveAll build w p b x (declare build w p b x s)
 
-module _ (build : Build) {w p b : List ℕ} (body : Body w p b) (laws : ScopeLaws w p b) (l x : ℕ) (row : x < rowCount w) (s : State)
+module _ (build : Build) {w p b : List ℕ} (body : Body w p b) (l x : ℕ) (row : x < rowCount w) (s : State)
     (is-label : isLabel w p b 0 x ≡ true) (listed : listOf w 0 x ≡ some l) (a : At w p b l x s) where
   -- ---- `declare` puts the first label of its name into the block, and no other
   known : lookup w p b (ident w p b x) (s .checker .all) ≡ before x (declared w p b 0 x)
-  known = rw (a .checker .all-are) (laws .lookup-all x x row)
+  known = rw (a .checker .all-are) (lookup-all body x x row)
 
   declared-context : declare build w p b x s .ctx ≡ s .ctx
   unfolding declare
@@ -72,7 +72,7 @@ module _ (build : Build) {w p b : List ℕ} (body : Body w p b) (laws : ScopeLaw
   pub entered-state : At w p b l (suc x) (entered build w p b x s)
   unfolding resolveAll
   entered-state = record {
-    checker = label-checker body laws build l x s row is-label listed (a .checker) (a .ctx);
+    checker = label-checker body build l x s row is-label listed (a .checker) (a .ctx);
     ctx = rw declared-context (context-label body l x (s .ctx) row is-label listed (a .ctx));
     blocks = blocks-entered;
   }

@@ -30,7 +30,6 @@ use Rattle.goscript.specs.Context.{Context, record-var-decl, with-jumps}
 use Rattle.goscript.specs.Checker.{Checker, error}
 use Rattle.goscript.specs.Label.{State, in-checker, in-ctx, valid, recordLabelUse, labelledBreak, gotoBranch, labelled, stmt-branches}
 use Rattle.goscript.proofs.Walking.{CheckerAt, ContextAt, BlocksAt, At}
-use Rattle.goscript.proofs.ScopeLaws.{ScopeLaws}
 use Rattle.goscript.proofs.CheckerRows.{breakCode, quiet-row, fallthrough-labelled, unlabelled, break-invalid, break-valid, goto-bound, goto-waits, uses-blocks, uses-ctx}
 use Rattle.goscript.proofs.ContextRows.{context-same, context-declares, context-waits}
 use Rattle.goscript.proofs.BlockRows.{visible-earlier, blocks-same}
@@ -64,7 +63,7 @@ pub record Walked (build : Build) (w p b : List ℕ) (l x : ℕ) (s s′ : State
   pub targets-kept : (n : List ℕ) → enclosing-target w p b n (s′ .blocks) ≡ enclosing-target w p b n (s .blocks)
   pub current : Leaves build w p b x s s′
 
-module _ (build : Build) {w p b : List ℕ} (body : Body w p b) (laws : ScopeLaws w p b) (l x : ℕ) (row : x < rowCount w) (s : State) where
+module _ (build : Build) {w p b : List ℕ} (body : Body w p b) (l x : ℕ) (row : x < rowCount w) (s : State) where
   -- a row without rows below, where neither the blocks nor the current label change
   leaf : (s′ : State) → holding (class w x) ≡ nothing → s′ .blocks ≡ s .blocks → s′ .ctx .lstmt ≡ s .ctx .lstmt
       → CheckerAt w p b (suc x) (s′ .checker) → ContextAt w p b l (suc x) (s′ .ctx) → At w p b l x s → isLabel w p b 0 x ≡ false → Walked build w p b l x s s′
@@ -85,7 +84,7 @@ module _ (build : Build) {w p b : List ℕ} (body : Body w p b) (laws : ScopeLaw
       → At w p b l x s → Walked build w p b l x s s
   other-walked f m d h a =
       let n = other-label w p b 0 x m in
-      leaf s h refl refl (quiet-row body laws x (s .checker) f n (a .checker))
+      leaf s h refl refl (quiet-row body x (s .checker) f n (a .checker))
       (same-context n (pending-other w p b (suc x) x (λ e. let z : false ≡ true = sym f ∙ rw e in clash (cc))) d a) a n
 
   pub quiet-walked : (f : ℕ) → isQuiet (class w x) ≡ true → At w p b l x s → Walked build w p b l x s (stmt-branches build w p b (suc f) x s)
@@ -100,7 +99,7 @@ module _ (build : Build) {w p b : List ℕ} (body : Body w p b) (laws : ScopeLaw
       let n = other-label w p b 0 x (λ c. clash (cc)) in
       rw (at-declaration build w p b f x s e)
       (leaf (in-ctx (record-var-decl (position w x)) s) (rw e) refl refl
-      (quiet-row body laws x (s .checker) (rw e) n (a .checker)) (context-declares body l x (s .ctx) e i (a .ctx)) a n)
+      (quiet-row body x (s .checker) (rw e) n (a .checker)) (context-declares body l x (s .ctx) e i (a .ctx)) a n)
 
   -- ---- branches
   module _ (t : isBranch (class w x) ≡ true) (h : holding (class w x) ≡ nothing) (d : class w x ≡ declaration → ⊥) (a : At w p b l x s) where
@@ -115,14 +114,14 @@ module _ (build : Build) {w p b : List ℕ} (body : Body w p b) (laws : ScopeLaw
     -- without a label nothing does
     unlabelled-walked : (s′ : State) → (class w x ≡ goto → ⊥) → name w x ≡ 0 → Walked build w p b l x s (labelled build w p b x s′ s)
     unlabelled-walked s′ n z = rw (has-none build w p b x s s′ z)
-        (branch-walked s refl refl (pending-other w p b (suc x) x n) (unlabelled body laws x row (s .checker) t z (a .checker)))
+        (branch-walked s refl refl (pending-other w p b (suc x) x n) (unlabelled body x row (s .checker) t z (a .checker)))
 
   pub fallthrough-walked : (f : ℕ) → class w x ≡ fallthrough → At w p b l x s → Walked build w p b l x s (stmt-branches build w p b (suc f) x s)
   fallthrough-walked f e a = rw (at-fallthrough build w p b f x s e) (elim (ℕ-discrete (name w x) 0) [
     | yes z ↦ unlabelled-walked (rw e) (rw e) (λ c. clash (cc)) a _ (λ c. clash (cc)) z
     | no n ↦ rw (has-label build w p b x s (in-checker (error (fault w 6 x ∷ [])) s) n)
         (branch-walked (rw e) (rw e) (λ c. clash (cc)) a (in-checker (error (fault w 6 x ∷ [])) s) refl refl (pending-other w p b (suc x) x (λ c. clash (cc)))
-        (fallthrough-labelled body laws x (s .checker) e (omega arith) (a .checker)))
+        (fallthrough-labelled body x (s .checker) e (omega arith) (a .checker)))
   ])
 
   -- a goto binds to what it sees, or waits
@@ -136,11 +135,11 @@ module _ (build : Build) {w p b : List ℕ} (body : Body w p b) (laws : ScopeLaw
 
       bound : (t : ℕ) → earlier w p b 0 x ≡ some t → Walked build w p b l x s (gotoBranch build w p b x s)
       bound t i = rw (goto-used build w p b x s t (sees ∙ i)) (branch-walked (rw e) (rw e) (λ c. clash (cc)) a (recordLabelUse build w p b x s)
-          (uses-blocks build w p b x s) (uses-ctx build w p b x s) (pending-earlier w p b (suc x) x t i) (goto-bound body laws x row e build s t i (a .checker)))
+          (uses-blocks build w p b x s) (uses-ctx build w p b x s) (pending-earlier w p b (suc x) x t i) (goto-bound body x row e build s t i (a .checker)))
 
       waits : earlier w p b 0 x ≡ none → Walked build w p b l x s (gotoBranch build w p b x s)
       waits i = rw (goto-pushed build w p b x s (sees ∙ i)) (leaf (in-ctx (with-jumps (s .ctx .fwd-jumps ++ x ∷ [])) s) (rw e) refl refl
-          (goto-waits body laws x row e (s .checker) i (a .checker)) (context-waits body l x (s .ctx) h e i (a .ctx)) a (no-label (rw e) (rw e) (λ c. clash (cc)) a))
+          (goto-waits body x row e (s .checker) i (a .checker)) (context-waits body l x (s .ctx) h e i (a .ctx)) a (no-label (rw e) (rw e) (λ c. clash (cc)) a))
 
   -- a break or continue is bound where its target is of the kinds that it needs
   module _ (k : Class) (kinds : Class → Bool) (e : class w x ≡ k) (breaks : oneOf (break ∷ continue ∷ []) k ≡ true) (same : (c : Class) → needs k c ≡ kinds c)
@@ -162,10 +161,10 @@ module _ (build : Build) {w p b : List ℕ} (body : Body w p b) (laws : ScopeLaw
       | no o ↦ rw (has-label build w p b x s (labelledBreak build w p b kinds (breakCode k) x s) o) (case-of (validTarget w p b 0 x)
           (λ v. rw (break-used build w p b x s kinds (breakCode k) (valid-same (omega arith) ∙ v)) (branch-walked t h d a (recordLabelUse build w p b x s)
           (uses-blocks build w p b x s) (uses-ctx build w p b x s) (pending-other w p b (suc x) x n)
-          (break-valid body laws x row k e breaks (omega arith) build s v (a .checker))))
+          (break-valid body x row k e breaks (omega arith) build s v (a .checker))))
           (λ v. rw (break-reported build w p b x s kinds (breakCode k) (valid-same (omega arith) ∙ v)) (branch-walked t h d a
           (in-checker (error (fault w (breakCode k) x ∷ [])) s) refl refl (pending-other w p b (suc x) x n)
-          (break-invalid body laws x row k e breaks (omega arith) (s .checker) v (a .checker)))))
+          (break-invalid body x row k e breaks (omega arith) (s .checker) v (a .checker)))))
     ]
 
   module _ (f : ℕ) {i : ℕ} (in-rows : l < rowCount w) (lists : isList (class w l) ≡ true) (st : Stacked w l i x) (a : At w p b l x s) where

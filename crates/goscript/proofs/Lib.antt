@@ -3,7 +3,7 @@ pub mod Table
 pub mod SameNames
 pub mod Walking
 pub mod Passing
-pub mod ScopeLaws
+pub mod ScopeRows
 pub mod UseRows
 pub mod CheckerRows
 pub mod ResolveRows
@@ -17,3 +17,9 @@ pub mod CurrentLabels
 pub mod Arms
 pub mod LeafRows
 pub mod LabelRows
+pub mod Positions
+pub mod WalkedLists
+pub mod WalkedRows
+pub mod LeftJumps
+pub mod LabelsEnd
+pub mod WalkedBody

@@ -58,6 +58,20 @@ overReport w ctx g = only (jumps-over-var-decl ctx g) (overFault w g (varDecl (c
 abbrev pub sameAs : List ℕ → List ℕ → List ℕ → ℕ → ℕ → Bool
 sameAs w p b s g = sameBytes (ident w p b g) (ident w p b s)
 
+-- of the rows that pass a test, those that the label s resolves, and what is reported of each
+module _ (w p b : List ℕ) (s : ℕ) (ctx : Context) (Q : ℕ → Bool) where
+  abbrev resolves : ℕ → Bool
+  resolves g = Q g && sameAs w p b s g
+
+  abbrev pub reports : ℕ → List Fault
+  reports g = elim (resolves g) [ true ↦ overReport w ctx g | false ↦ [] ]
+
+  pub reports-is : (g : ℕ) → resolves g ≡ true → reports g ≡ overReport w ctx g
+  reports-is g t = rw (t, reports)
+
+  pub reports-not : (g : ℕ) → resolves g ≡ false → reports g ≡ []
+  reports-not g f = rw (f, reports)
+
 module _ (build : Build) (w p b : List ℕ) (s : ℕ) (ctx : Context) where
   -- ---- one jump
   resolve-not : (g : ℕ) (c : Checker) → sameAs w p b s g ≡ false → resolve build w p b s ctx g c ≡ c
@@ -75,33 +89,35 @@ module _ (build : Build) (w p b : List ℕ) (s : ℕ) (ctx : Context) where
 
   -- ---- those below n that pass a test
   module _ (Q : ℕ → Bool) (c : Checker) where
-    abbrev resolves : ℕ → Bool
-    resolves g = Q g && sameAs w p b s g
+    abbrev taken : ℕ → Bool
+    taken = resolves w p b s ctx Q
 
-    abbrev pub reports : ℕ → List Fault
-    reports g = elim (resolves g) [ true ↦ overReport w ctx g | false ↦ [] ]
+    abbrev reported : ℕ → List Fault
+    reported = reports w p b s ctx Q
 
-    pub reports-is : (g : ℕ) → resolves g ≡ true → reports g ≡ overReport w ctx g
-    reports-is g t = rw (t, reports)
+    -- the label d is one of those used before, or it is s and some row below n is resolved
+    abbrev pub Used : ℕ → ℕ → Type 0
+    Used n d = (contains d (c .used) ≡ true) ⊎ ((d ≡ s) × ((g : ℕ) × (g < n) × (taken g ≡ true)))
 
-    pub reports-not : (g : ℕ) → resolves g ≡ false → reports g ≡ []
-    reports-not g f = rw (f, reports)
+    used-more : (n d : ℕ) → Used n d → Used (suc n) d
+    used-more n d (inl u) = inl u
+    used-more n d (inr (i, (g, h, t))) = inr (i, (g, omega arith, t))
 
     pub record Resolved (n : ℕ) (e : Checker) : Type 0 where
       pub all-same : e .all ≡ c .all
       pub defs-same : e .defs ≡ c .defs
-      pub errors-are : e .errors ≡ c .errors ++ each reports n
-      pub taken-use : (g : ℕ) → g < n → resolves g ≡ true → usedBy (e .uses) g ≡ suc s
-      pub other-use : (g : ℕ) → (g < n → resolves g ≡ false) → usedBy (e .uses) g ≡ usedBy (c .uses) g
-      pub label-used : (g : ℕ) → g < n → resolves g ≡ true → contains s (e .used) ≡ true
+      pub errors-are : e .errors ≡ c .errors ++ each reported n
+      pub taken-use : (g : ℕ) → g < n → taken g ≡ true → usedBy (e .uses) g ≡ suc s
+      pub other-use : (g : ℕ) → (g < n → taken g ≡ false) → usedBy (e .uses) g ≡ usedBy (c .uses) g
+      pub label-used : (g : ℕ) → g < n → taken g ≡ true → contains s (e .used) ≡ true
       pub used-kept : (d : ℕ) → contains d (c .used) ≡ true → contains d (e .used) ≡ true
-      pub used-cases : (d : ℕ) → contains d (e .used) ≡ true → (contains d (c .used) ≡ true) ⊎ ((d ≡ s) × ((g : ℕ) × (g < n) × (resolves g ≡ true)))
+      pub used-cases : (d : ℕ) → contains d (e .used) ≡ true → Used n d
 
     start : Resolved 0 c
     start = record {
       all-same = refl;
       defs-same = refl;
-      errors-are = sym (rw (each-zero reports) (append-nil (c .errors)));
+      errors-are = sym (rw (each-zero reported) (append-nil (c .errors)));
       taken-use = λ g h t. absurd (omega arith);
       other-use = λ g h. refl;
       label-used = λ g h t. absurd (omega arith);
@@ -110,53 +126,53 @@ module _ (build : Build) (w p b : List ℕ) (s : ℕ) (ctx : Context) where
     }
 
     -- a row that is not resolved
-    not-one : (n : ℕ) (e : Checker) → resolves n ≡ false → Resolved n e → Resolved (suc n) e
-    not-one n e f r = record {
+    other-step : (n : ℕ) (e : Checker) → taken n ≡ false → Resolved n e → Resolved (suc n) e
+    other-step n e f r = record {
       all-same = r .all-same;
       defs-same = r .defs-same;
-      errors-are = r .errors-are ∙ ap (λ (l : List Fault). c .errors ++ l) (sym (each-suc reports n ∙ rw (reports-not n f) (append-nil (each reports n))));
+      errors-are = r .errors-are ∙ ap (λ (l : List Fault). c .errors ++ l) (sym (each-suc reported n ∙ rw (reports-not w p b s ctx Q n f) (append-nil (each reported n))));
       taken-use = λ g h t. r .taken-use g (other-below g h t) t;
       other-use = λ g h. r .other-use g (λ l. h (omega arith));
       label-used = λ g h t. r .label-used g (other-below g h t) t;
       used-kept = r .used-kept;
-      used-cases = λ d t. elim (r .used-cases d t) [ inl u ↦ inl u | inr u ↦ inr (u .0, (u .1 .0, omega (arith, u .1 .1), u .1 .2)) ];
+      used-cases = λ d t. used-more n d (r .used-cases d t);
     }
       where
-        other-below : (g : ℕ) → g < suc n → resolves g ≡ true → g < n
+        other-below : (g : ℕ) → g < suc n → taken g ≡ true → g < n
         other-below g h t = elim (ℕ-discrete g n) [
-          | yes i ↦ let z : resolves n ≡ true = rw i at t in absurd (clash (cc))
+          | yes i ↦ let z : taken n ≡ true = rw i at t in absurd (clash (cc))
           | no o ↦ omega arith
         ]
 
     -- one that is
-    one : (n : ℕ) (e : Checker) → resolves n ≡ true → Resolved n e → Resolved (suc n) (resolvedAt n e)
-    one n e t r = record {
+    taken-step : (n : ℕ) (e : Checker) → taken n ≡ true → Resolved n e → Resolved (suc n) (resolvedAt n e)
+    taken-step n e t r = record {
       all-same = r .all-same;
       defs-same = r .defs-same;
-      errors-are = ap (λ (l : List Fault). l ++ overReport w ctx n) (r .errors-are) ∙ append-assoc (c .errors) (each reports n) (overReport w ctx n)
-          ∙ ap (λ (l : List Fault). c .errors ++ l) (sym (each-suc reports n ∙ rw (reports-is n t)));
+      errors-are = ap (λ (l : List Fault). l ++ overReport w ctx n) (r .errors-are) ∙ append-assoc (c .errors) (each reported n) (overReport w ctx n)
+          ∙ ap (λ (l : List Fault). c .errors ++ l) (sym (each-suc reported n ∙ rw (reports-is w p b s ctx Q n t)));
       taken-use = λ g h u. elim (ℕ-discrete n g) [
         | yes i ↦ used-own (e .uses) n s g i
         | no o ↦ used-other (e .uses) n s g o ∙ r .taken-use g (omega arith) u
       ];
       other-use = λ g h.
-          let m : n ≡ g → ⊥ = λ i. let z : resolves n ≡ false = rw i (h (omega arith)) in clash (cc) in
+          let m : n ≡ g → ⊥ = λ i. let z : taken n ≡ false = rw i (h (omega arith)) in clash (cc) in
           used-other (e .uses) n s g m ∙ r .other-use g (λ l. h (omega arith));
       label-used = λ g h u. contains-own s s (e .used) refl;
       used-kept = λ d u. contains-kept d s (e .used) (r .used-kept d u);
       used-cases = λ d u. elim (contains-cases d s (e .used) u) [
         | inl i ↦ inr (i, (n, omega arith, t))
-        | inr v ↦ elim (r .used-cases d v) [ inl u ↦ inl u | inr u ↦ inr (u .0, (u .1 .0, omega (arith, u .1 .1), u .1 .2)) ]
+        | inr v ↦ used-more n d (r .used-cases d v)
       ];
     }
 
-    passing : (n : ℕ) (e : Checker) → Q n ≡ true → Resolved n e → Resolved (suc n) (resolve build w p b s ctx n e)
-    passing n e t r = case-of (sameAs w p b s n)
-        (λ u. rw (resolve-is n e u) (one n e (rw (t, u)) r))
-        (λ u. rw (resolve-not n e u) (not-one n e (rw (t, u)) r))
+    resolve-step : (n : ℕ) (e : Checker) → Q n ≡ true → Resolved n e → Resolved (suc n) (resolve build w p b s ctx n e)
+    resolve-step n e t r = case-of (sameAs w p b s n)
+        (λ u. rw (resolve-is n e u) (taken-step n e (rw (t, u)) r))
+        (λ u. rw (resolve-not n e u) (other-step n e (rw (t, u)) r))
 
     pub resolved : (n : ℕ) → Resolved n (throughEach (resolve build w p b s ctx) Q c n)
     resolved zero = rw (through-zero (resolve build w p b s ctx) Q c) start
     resolved (suc n) = case-of (Q n)
-        (λ t. rw (through-yes (resolve build w p b s ctx) Q c n t) (passing n (throughEach (resolve build w p b s ctx) Q c n) t (resolved n)))
-        (λ f. rw (through-no (resolve build w p b s ctx) Q c n f) (not-one n (throughEach (resolve build w p b s ctx) Q c n) (rw f) (resolved n)))
+        (λ t. rw (through-yes (resolve build w p b s ctx) Q c n t) (resolve-step n (throughEach (resolve build w p b s ctx) Q c n) t (resolved n)))
+        (λ f. rw (through-no (resolve build w p b s ctx) Q c n f) (other-step n (throughEach (resolve build w p b s ctx) Q c n) (rw f) (resolved n)))

@@ -57,7 +57,7 @@ module _ (w p b : List ℕ) where
   unfolding useAt
   use-from x g h = rw (le-ltb g x h, useAt)
 
-  pub use-none : (x g : ℕ) → isBranch (class w g) ≡ false → useAt w p b x g ≡ 0
+  use-none : (x g : ℕ) → isBranch (class w g) ≡ false → useAt w p b x g ≡ 0
   unfolding useAt
   use-none x g f = case-of (ltb g x) (λ t. rw (t, f, useAt)) (λ t. rw (t, useAt))
 
