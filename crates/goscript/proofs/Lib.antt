@@ -1,5 +1,14 @@
 pub mod Computed
 pub mod Table
+pub mod VerdictItems
+pub mod VerdictSteps
+pub mod VerdictSearch
+pub mod VerdictBreaks
+pub mod VerdictLists
+pub mod VerdictClauses
+pub mod VerdictRules
+pub mod VerdictMended
+pub mod VerdictStock
 pub mod SameNames
 pub mod Walking
 pub mod Passing
@@ -23,3 +32,4 @@ pub mod WalkedRows
 pub mod LeftJumps
 pub mod LabelsEnd
 pub mod WalkedBody
+pub mod Equal

@@ -41,7 +41,7 @@ pub record Known (w p b : List ℕ) (t r label k n : ℕ) : Type 0 where
   pub size-is : n ≡ size w r
 
 -- what stands directly below a Labeled row or an If with an else is a statement
-part-of : (q c : Class) → oneOf (labeled ∷ ifElse ∷ []) q ≡ true → fits q c ≡ true → isStatement c ≡ true
+pub part-of : (q c : Class) → oneOf (labeled ∷ ifElse ∷ []) q ≡ true → fits q c ≡ true → isStatement c ≡ true
 unfolding every lowest
 part-of = child-rule (oneOf (labeled ∷ ifElse ∷ [])) isStatement refl
 
