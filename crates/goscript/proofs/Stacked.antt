@@ -98,12 +98,15 @@ module _ {w p b : List ℕ} (body : Body w p b) {l i g : ℕ} (row : l < rowCoun
   home = case-of (isBlock (class w l)) own outer
     where
       own : isBlock (class w l) ≡ true → (k : ℕ) × Home w p b l g k
-      own t = (l, record {
-        block = found-innermost w 0 isBlock g l (record { before = omega (arith, st .after, st .upto); from = omega arith; reaches = st .inside; passes = t })
-            (no-other st isBlock refl);
-        upto = omega arith;
-        none-between = λ t h m n. absurd (omega arith);
-      })
+      own t = (
+        l,
+        record {
+          block = found-innermost w 0 isBlock g l (record { before = omega (arith, st .after, st .upto); from = omega arith; reaches = st .inside; passes = t })
+              (no-other st isBlock refl);
+          upto = omega arith;
+          none-between = λ t h m n. absurd (omega arith);
+        },
+      )
 
       not-first : isBlock (class w l) ≡ false → 0 < l
       not-first f = elim (ℕ-discrete l 0) [

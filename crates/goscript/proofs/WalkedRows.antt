@@ -300,8 +300,13 @@ module _ (build : Build) {w p b : List ℕ} (body : Body w p b) (domain : Domain
         let listed = its-list body home row n (rw c) in
         rw (at-label build w p b f x s c t)
         (labeled-walked (entered build w p b x s)
-        (item i (record { stacked = st; holds = n .holds; fit = n .fit; on-item = under x (n .stacked .upto) (omega arith) v (λ k y z. absurd (omega arith))
-        (entered-current build body l x row s v listed a) }))
+        (item i (record {
+          stacked = st;
+          holds = n .holds;
+          fit = n .fit;
+          on-item = under x (n .stacked .upto) (omega arith) v (λ k y z. absurd (omega arith))
+              (entered-current build body l x row s v listed a);
+        }))
         (entered-state build body l x row s v listed a) (entered-targets build body l x row s v listed a) (inr (v, entered-current build body l x row s v listed a))))
       where
         further : (i : ℕ) → isLabel w p b 0 x ≡ false → OnItem w p b l i x s → OnItem w p b l i (suc x) s
