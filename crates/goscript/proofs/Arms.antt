@@ -4,7 +4,7 @@ use mathlib.Core.Path.{_≡_, refl}
 use mathlib.Core.Bool.{Bool, true, false}
 use mathlib.Core.List.{List, [], _∷_, _++_}
 use mathlib.Core.Option.{Option, none, some}
-use Prim.Native.Nat.{ℕ, zero, suc}
+use Prim.Native.Nat.{ℕ, suc}
 use borrow.Author.Tests.{eq-eqb, ne-eqb}
 use Rattle.rules.specs.Rows.{position, name, end}
 use Rattle.rules.specs.Names.{isBlank}
@@ -41,29 +41,12 @@ use Rattle.rules.specs.Class.{
 use Rattle.rules.specs.Scope.{isBlock}
 use Rattle.rules.specs.Labels.{fault}
 use Rattle.rules.proofs.ClassRules.{by-one}
-use Rattle.goscript.specs.Build.{Place, original, mended, Build}
+use Rattle.goscript.specs.Build.{original, mended, Build}
 use Rattle.goscript.specs.Syntax.{through, list, ident}
 use Rattle.goscript.specs.Block.{Block, new as newBlock, goto-target, enclosing-target}
 use Rattle.goscript.specs.Context.{new as newContext, record-var-decl, with-jumps, with-lstmt}
 use Rattle.goscript.specs.Checker.{Checker, error}
-use Rattle.goscript.specs.Label.{
-  State,
-  Outgoing,
-  in-checker,
-  in-ctx,
-  append,
-  outgoing,
-  afterLabeled,
-  declare,
-  resolveAll,
-  valid,
-  recordLabelUse,
-  labelledBreak,
-  gotoBranch,
-  labelled,
-  block-branches,
-  stmt-branches,
-}
+use Rattle.goscript.specs.Label.{State, in-checker, in-ctx, append, outgoing, afterLabeled, declare, resolveAll, valid, recordLabelUse, labelledBreak, gotoBranch, labelled, block-branches, stmt-branches}
 
 -- rows that change nothing; clauses; statements with one Block
 abbrev pub isQuiet : Class → Bool

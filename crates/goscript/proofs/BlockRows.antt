@@ -5,11 +5,11 @@ use mathlib.Core.Path.{_≡_, refl, sym, _∙_, ap}
 use mathlib.Core.Bool.{Bool, true, false, _&&_}
 use mathlib.Core.List.{List, [], _∷_, _++_}
 use mathlib.Core.Option.{Option, none, some}
-use Prim.Native.Nat.{ℕ, zero, suc, _≤_, _<_}
+use Prim.Native.Nat.{ℕ, suc, _≤_, _<_}
 use native.Mathlib.Omega.{arith}
 use native.Mathlib.Decide.{decLt, ℕ-discrete}
 use lib.Dec.{ltb}
-use borrow.Author.Tests.{lt-ltb, le-ltb, ltb-true}
+use borrow.Author.Tests.{lt-ltb, le-ltb}
 use Rattle.rules.specs.Scan.{highest}
 use Rattle.rules.specs.Rows.{rowCount, end}
 use Rattle.rules.specs.Class.{labeled, class}
@@ -17,11 +17,11 @@ use Rattle.rules.specs.Names.{sameBytes}
 use Rattle.rules.specs.Body.{Body}
 use Rattle.rules.specs.Scope.{isList, holdsItems, listOf, inListOf}
 use Rattle.rules.specs.Labels.{isLabel, labels, declared, earlier, sameNames}
-use Rattle.rules.proofs.Test.{case-of, case-found, clash, and-true}
+use Rattle.rules.proofs.Test.{case-of, case-found, clash}
 use Rattle.rules.proofs.RowNames.{same-sym}
-use Rattle.rules.proofs.LabelRows.{is-declared, is-labels, other-label}
+use Rattle.rules.proofs.LabelRows.{is-declared, is-labels}
 use Rattle.rules.proofs.GotoRows.{list-some, in-list}
-use Rattle.rules.proofs.Around.{Innermost, innermost-found, innermost-last}
+use Rattle.rules.proofs.Around.{innermost-found, innermost-last}
 use Rattle.rules.proofs.Lists.{statement-list}
 use Rattle.branches.proofs.CanonRows.{label-class, body-end}
 use Rattle.goscript.specs.Syntax.{ident, lookup}

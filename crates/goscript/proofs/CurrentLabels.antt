@@ -2,28 +2,27 @@
 -- or (in stock) the label of a statement already ended, which no break names here. Below labels it is the last of them that is not `_`, and that one alone is last in its run.
 -- Assumes nothing.
 use mathlib.Core.Path.{_≡_, refl, sym, _∙_, ap}
-use mathlib.Core.Bool.{Bool, true, false, _&&_, not}
-use mathlib.Core.List.{List, [], _∷_}
+use mathlib.Core.Bool.{Bool, true, false, _&&_}
+use mathlib.Core.List.{List, _∷_}
 use mathlib.Core.Option.{Option, none, some}
-use Prim.Native.Nat.{ℕ, suc, _≤_, _<_}
+use Prim.Native.Nat.{ℕ, _≤_, _<_}
 use native.Mathlib.Omega.{arith}
 use native.Mathlib.Decide.{decLt, ℕ-discrete}
 use lib.Dec.{leb}
 use borrow.Author.Tests.{le-leb, not-true}
-use Rattle.rules.specs.Scan.{lowest, highest}
+use Rattle.rules.specs.Scan.{lowest}
 use Rattle.rules.specs.Rows.{rowCount, end}
 use Rattle.rules.specs.Class.{labeled, class}
-use Rattle.rules.specs.Names.{sameBytes}
 use Rattle.rules.specs.Body.{Body}
 use Rattle.rules.specs.Scope.{holdsItems, around}
 use Rattle.rules.specs.Labels.{isSome, isLabel, labels, lastInRun, labelledBreak, sameNames}
-use Rattle.rules.proofs.Test.{case-of, case-found, clash, and-true, true-and}
-use Rattle.rules.proofs.Found.{is-none, some-is}
+use Rattle.rules.proofs.Test.{case-of, case-found, clash, true-and}
+use Rattle.rules.proofs.Found.{is-none}
 use Rattle.rules.proofs.Scan.{lowest-none, found-highest}
 use Rattle.rules.proofs.Around.{around-true, true-around}
 use Rattle.rules.proofs.LabelRows.{labels-is, is-labels, other-label}
 use Rattle.branches.proofs.Downward.{highest-cut}
-use Rattle.branches.proofs.BlockLabels.{LastInRun, is-last, last-is}
+use Rattle.branches.proofs.BlockLabels.{is-last, last-is}
 use Rattle.goscript.specs.Syntax.{ident}
 use Rattle.goscript.specs.Block.{Block, new, search, named, enclosing-target}
 use Rattle.goscript.specs.Domains.{namesEnded, noneNamesEnded}

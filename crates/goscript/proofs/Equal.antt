@@ -1,9 +1,8 @@
 -- Demand 2, first half, for every well-formed body: goscript with A, B and C mended answers as `rules` does, and stock in its two domains; and each law used on a body.
 -- Assumes nothing.
-use mathlib.Core.Path.{_≡_, refl}
-use mathlib.Core.Bool.{true}
+use mathlib.Core.Path.{refl}
 use mathlib.Core.Logic.{inl, inr}
-use mathlib.Core.List.{List, []}
+use mathlib.Core.List.{List}
 use Prim.Native.Nat.{ℕ}
 use Rattle.rules.specs.Bodies.{pairs, bytes, body1, body2, body6, selectInLoop}
 use Rattle.rules.proofs.Computed.{computed as rulesComputed}

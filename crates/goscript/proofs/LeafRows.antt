@@ -2,20 +2,17 @@
 -- Assumes nothing.
 use mathlib.Core.Path.{_≡_, refl, sym, _∙_, ap}
 use mathlib.Core.Bool.{Bool, true, false}
-use mathlib.Core.Logic.{_⊎_, inl, inr}
 use mathlib.Core.List.{List, [], _∷_, _++_}
-use mathlib.Core.Option.{Option, none, some}
-use Prim.Native.Nat.{ℕ, zero, suc, _≤_, _<_}
+use mathlib.Core.Option.{none, some}
+use Prim.Native.Nat.{ℕ, suc, _≤_, _<_}
 use native.Mathlib.Omega.{arith}
 use native.Mathlib.Decide.{ℕ-discrete}
-use lib.Dec.{eqb}
-use borrow.Author.Tests.{eq-eqb, ne-eqb}
-use Rattle.rules.specs.Rows.{rowCount, position, name, size, end}
+use Rattle.rules.specs.Rows.{rowCount, position, name, end}
 use Rattle.rules.specs.Class.{Class, plain, declaration, empty, labeled, stop, break, continue, goto, fallthrough, oneOf, isBranch, isBreakable, isLoop, class}
 use Rattle.rules.specs.Body.{Body}
-use Rattle.rules.specs.Refusals.{Holding, nothing, holding}
+use Rattle.rules.specs.Refusals.{nothing, holding}
 use Rattle.rules.specs.Scope.{isList, listOf}
-use Rattle.rules.specs.Labels.{fault, isLabel, declared, earlier, pending, needs, target, validTarget, labelledBreak as isLabelledBreak}
+use Rattle.rules.specs.Labels.{fault, isLabel, earlier, pending, needs, target, validTarget}
 use Rattle.rules.proofs.Test.{case-of, case-found, clash}
 use Rattle.rules.proofs.RowNames.{goto-named}
 use Rattle.rules.proofs.BreakRows.{valid-found, valid-none, labelled-is}
@@ -23,17 +20,17 @@ use Rattle.rules.proofs.ClassRules.{by-one}
 use Rattle.rules.proofs.BindingRows.{branch-label}
 use Rattle.rules.proofs.LabelRows.{other-label}
 use Rattle.branches.proofs.WalkPending.{pending-other, pending-earlier}
-use Rattle.goscript.specs.Build.{Place, original, mended, Build}
+use Rattle.goscript.specs.Build.{original, Build}
 use Rattle.goscript.specs.Syntax.{ident}
-use Rattle.goscript.specs.Block.{Block, goto-target, enclosing-target}
+use Rattle.goscript.specs.Block.{goto-target, enclosing-target}
 use Rattle.goscript.specs.Context.{Context, record-var-decl, with-jumps}
-use Rattle.goscript.specs.Checker.{Checker, error}
+use Rattle.goscript.specs.Checker.{error}
 use Rattle.goscript.specs.Label.{State, in-checker, in-ctx, valid, recordLabelUse, labelledBreak, gotoBranch, labelled, stmt-branches}
-use Rattle.goscript.proofs.Walking.{CheckerAt, ContextAt, BlocksAt, At}
+use Rattle.goscript.proofs.Walking.{CheckerAt, ContextAt, At}
 use Rattle.goscript.proofs.CheckerRows.{breakCode, quiet-row, fallthrough-labelled, unlabelled, break-invalid, break-valid, goto-bound, goto-waits, uses-blocks, uses-ctx}
 use Rattle.goscript.proofs.ContextRows.{context-same, context-declares, context-waits}
 use Rattle.goscript.proofs.BlockRows.{visible-earlier, blocks-same}
-use Rattle.goscript.proofs.Stacked.{Stacked, in-the-list, target-is}
+use Rattle.goscript.proofs.Stacked.{Stacked, target-is}
 use Rattle.goscript.proofs.Arms.{
   isQuiet,
   has-label,

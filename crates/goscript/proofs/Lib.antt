@@ -33,3 +33,4 @@ pub mod LeftJumps
 pub mod LabelsEnd
 pub mod WalkedBody
 pub mod Equal
+pub mod Called

@@ -1,27 +1,25 @@
 -- Where the walk stands: at an item of a list, perhaps below labels of it, or at a part of a statement. Either way a labelled break further in finds its target with the
 -- current label and the blocks.
 -- Assumes nothing.
-use mathlib.Core.Path.{_≡_, refl, sym, _∙_, ap}
+use mathlib.Core.Path.{_≡_, refl}
 use mathlib.Core.Bool.{Bool, true, false, _&&_}
 use mathlib.Core.List.{List, [], _∷_}
-use mathlib.Core.Option.{Option, none, some}
-use Prim.Native.Nat.{ℕ, zero, suc, _-_, _≤_, _<_}
+use mathlib.Core.Option.{none, some}
+use Prim.Native.Nat.{ℕ, suc, _-_, _≤_, _<_}
 use native.Mathlib.Omega.{arith}
-use native.Mathlib.Decide.{decLt, ℕ-discrete}
+use native.Mathlib.Decide.{ℕ-discrete}
 use Rattle.rules.specs.Scan.{lowest}
-use Rattle.rules.specs.Rows.{rowCount, end, Child, Item, here}
+use Rattle.rules.specs.Rows.{rowCount, end, here}
 use Rattle.rules.specs.Class.{Class, labeled, block, caseBlock, commBlock, if, ifElse, oneOf, isStatement, class}
-use Rattle.rules.specs.Body.{Body, OneChild, fits}
+use Rattle.rules.specs.Body.{Body, fits}
 use Rattle.rules.specs.Scope.{isList, holdsItems, listOf}
 use Rattle.rules.specs.Labels.{isLabel}
-use Rattle.rules.proofs.Test.{case-of, clash}
+use Rattle.rules.proofs.Test.{clash}
 use Rattle.rules.proofs.Every.{every, implies, implied, of-classes}
-use Rattle.goscript.specs.Block.{Block}
 use Rattle.goscript.specs.Label.{State}
-use Rattle.goscript.proofs.Walking.{BlocksAt, At, AddsNothing, Finds}
-use Rattle.goscript.proofs.Stacked.{Stacked, in-the-list, below-label}
+use Rattle.goscript.proofs.Walking.{BlocksAt, AddsNothing, Finds}
+use Rattle.goscript.proofs.Stacked.{Stacked, in-the-list}
 use Rattle.goscript.proofs.CurrentLabels.{adds-none, finds-unlabelled, finds-labelled}
-use Rattle.goscript.proofs.Arms.{isClause}
 
 -- a part of a statement: its Block, or the else part of an If
 abbrev pub isPart : Class → Bool

@@ -1,15 +1,15 @@
 -- Rows that carry the same name have the same declared label; and identifiers are compared as `rules` compares names.
 -- Assumes nothing.
 use mathlib.Core.Path.{_≡_, refl, sym, _∙_}
-use mathlib.Core.Bool.{true, false}
+use mathlib.Core.Bool.{true}
 use mathlib.Core.List.{List}
-use mathlib.Core.Option.{none, some}
-use Prim.Native.Nat.{ℕ, _<_}
-use Rattle.rules.specs.Rows.{name, end}
+use mathlib.Core.Option.{some}
+use Prim.Native.Nat.{ℕ}
+use Rattle.rules.specs.Rows.{name}
 use Rattle.rules.specs.Names.{sameBytes, sameName}
-use Rattle.rules.specs.Labels.{isLabel, labels, declared, sameNames}
+use Rattle.rules.specs.Labels.{labels, declared, sameNames}
 use Rattle.rules.proofs.Test.{case-found}
-use Rattle.rules.proofs.RowNames.{same-bytes, same-sym}
+use Rattle.rules.proofs.RowNames.{same-bytes}
 use Rattle.rules.proofs.LabelRows.{is-declared, is-labels, declared-first, declared-is, declared-none, none-declared}
 use Rattle.goscript.specs.Syntax.{ident}
 

@@ -3,24 +3,23 @@
 -- Assumes nothing.
 use mathlib.Core.Path.{_≡_, refl, sym, _∙_, ap}
 use mathlib.Core.Bool.{Bool, true, false, _&&_, not}
-use mathlib.Core.List.{List, [], _∷_}
+use mathlib.Core.List.{List}
 use mathlib.Core.Option.{some}
 use Prim.Native.Nat.{ℕ, suc, _≤_, _<_}
 use native.Mathlib.Omega.{arith}
 use native.Mathlib.Decide.{decLt, ℕ-discrete}
 use lib.Dec.{ltb}
 use borrow.Author.Tests.{lt-ltb, le-ltb}
-use Rattle.rules.specs.Scan.{lowest, highest}
-use Rattle.rules.specs.Rows.{rowCount, end, Child}
-use Rattle.rules.specs.Class.{Class, labeled, oneOf, isStatement, class}
+use Rattle.rules.specs.Scan.{lowest}
+use Rattle.rules.specs.Rows.{rowCount, end}
+use Rattle.rules.specs.Class.{Class, labeled, class}
 use Rattle.rules.specs.Body.{Body, OneChild, fits}
-use Rattle.rules.specs.Scope.{isList, isBlock, holdsItems, around, innermost, listOf}
+use Rattle.rules.specs.Scope.{isList, isBlock, around, innermost, listOf}
 use Rattle.rules.specs.Labels.{isLabel, labels, lastInRun, inBlockOf, target}
 use Rattle.rules.proofs.Test.{case-of, clash, and-true}
 use Rattle.rules.proofs.Every.{every}
-use Rattle.rules.proofs.Scan.{none-highest}
-use Rattle.rules.proofs.ClassRules.{class-rule, parent-rule}
-use Rattle.rules.proofs.Nesting.{item-before, item-from, ends-before}
+use Rattle.rules.proofs.ClassRules.{parent-rule}
+use Rattle.rules.proofs.Nesting.{ends-before}
 use Rattle.rules.proofs.Around.{around-true, Innermost}
 use Rattle.rules.proofs.Lists.{found-innermost}
 use Rattle.rules.proofs.LabelRows.{is-labels, other-label}

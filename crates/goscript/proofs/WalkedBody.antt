@@ -1,15 +1,14 @@
 -- The walk of the whole body: every statement is walked, by induction on the calls, and so the body's own list from row 1 to its end. There the state is that of the walk at the
 -- end, of which the sheet and the bindings are made.
 -- Assumes nothing.
-use mathlib.Core.Path.{_≡_, refl, sym, _∙_, ap}
-use mathlib.Core.Bool.{Bool, true, false, _&&_}
-use mathlib.Core.List.{List, [], _∷_}
+use mathlib.Core.Path.{_≡_, refl, sym, ap}
+use mathlib.Core.List.{List, []}
 use mathlib.Core.Option.{none}
-use Prim.Native.Nat.{ℕ, zero, suc, _+_, _-_, _≤_, _<_}
+use Prim.Native.Nat.{ℕ, zero, suc, _+_, _-_, _<_}
 use native.Mathlib.Omega.{arith}
 use borrow.Author.Tests.{le-ltb}
-use Rattle.rules.specs.Rows.{rowCount, size, end}
-use Rattle.rules.specs.Class.{labeled, class}
+use Rattle.rules.specs.Rows.{rowCount, size}
+use Rattle.rules.specs.Class.{class}
 use Rattle.rules.specs.Body.{Body}
 use Rattle.rules.proofs.Test.{clash}
 use Rattle.rules.proofs.LabelRows.{other-label}
@@ -17,17 +16,17 @@ use Rattle.branches.proofs.CanonRows.{body-end}
 use Rattle.branches.proofs.WalkFaults.{faults-zero}
 use Rattle.goscript.specs.Build.{Build}
 use Rattle.goscript.specs.Syntax.{any, contains, list}
-use Rattle.goscript.specs.Checker.{Checker, new, usedBy}
-use Rattle.goscript.specs.Label.{State, Outgoing, block-branches, stmt-branches}
+use Rattle.goscript.specs.Checker.{new, usedBy}
+use Rattle.goscript.specs.Label.{block-branches, stmt-branches}
 use Rattle.goscript.specs.Equal.{SameLabels}
-use Rattle.goscript.proofs.Walking.{useAt, CheckerAt, At}
+use Rattle.goscript.proofs.Walking.{CheckerAt}
 use Rattle.goscript.proofs.ScopeRows.{all-zero}
 use Rattle.goscript.proofs.UseRows.{use-from}
 use Rattle.goscript.proofs.CheckerRows.{quiet-row}
 use Rattle.goscript.proofs.BlockRows.{blocks-first}
 use Rattle.goscript.proofs.Arms.{Arm, quiet, declares, labels, breaks, continues, goes, falls, nests, clauses, one-part, two-parts, arm}
 use Rattle.goscript.proofs.LeafRows.{Walked, quiet-walked, declaration-walked, fallthrough-walked, goto-walked, breaks-walked, continues-walked}
-use Rattle.goscript.proofs.Positions.{Position, InItem, item, part, stands, home-list, its-list}
+use Rattle.goscript.proofs.Positions.{stands, home-list, its-list}
 use Rattle.goscript.proofs.WalkedLists.{Domain, Statements, list-walked}
 use Rattle.goscript.proofs.WalkedRows.{parts-other, block-walked, clause-walked, body-walked, else-walked, label-walked, in-list}
 use Rattle.goscript.proofs.LabelsEnd.{labels-end}

@@ -1,34 +1,30 @@
 -- A list: its items are walked one after the other, each from the state that the one before leaves, so the state at the list's end is that of the walk there. An item
 -- leaves the current label as it was, or in stock that of a statement ended with it; either way it adds nothing for the items after it.
 -- Assumes nothing.
-use mathlib.Core.Path.{_≡_, refl, sym, _∙_, ap}
-use mathlib.Core.Bool.{true, false}
+use mathlib.Core.Path.{_≡_, _∙_}
+use mathlib.Core.Bool.{true}
 use mathlib.Core.Logic.{_⊎_, inl, inr}
-use mathlib.Core.List.{List, [], _∷_, _++_}
-use mathlib.Core.Option.{Option, none, some}
+use mathlib.Core.List.{List, _∷_}
+use mathlib.Core.Option.{Option}
 use Prim.Native.Nat.{ℕ, zero, suc, _+_, _≤_, _<_}
 use native.Mathlib.Omega.{arith}
 use native.Mathlib.Decide.{decLt, ℕ-discrete}
 use borrow.Author.Tests.{lt-ltb, le-ltb}
 use Rattle.rules.specs.Rows.{rowCount, size, end, Child, here}
-use Rattle.rules.specs.Class.{labeled, isBranch, declaration, class}
+use Rattle.rules.specs.Class.{class}
 use Rattle.rules.specs.Body.{Body}
 use Rattle.rules.specs.Scope.{holdsItems}
-use Rattle.rules.specs.Labels.{isLabel}
 use Rattle.rules.proofs.Test.{clash}
 use Rattle.rules.proofs.Nesting.{item-next}
-use Rattle.rules.proofs.LabelRows.{other-label}
-use Rattle.goscript.specs.Build.{Place, original, mended, Build}
+use Rattle.goscript.specs.Build.{mended, Build}
 use Rattle.goscript.specs.Syntax.{through, items, list}
 use Rattle.goscript.specs.Block.{Block, new, enclosing-target}
-use Rattle.goscript.specs.Context.{Context, new as newContext, with-jumps}
+use Rattle.goscript.specs.Context.{new as newContext}
 use Rattle.goscript.specs.Checker.{Checker}
-use Rattle.goscript.specs.Label.{State, Outgoing, outgoing, append, block-branches, stmt-branches}
+use Rattle.goscript.specs.Label.{State, Outgoing, block-branches, stmt-branches}
 use Rattle.goscript.specs.Domains.{noneNamesEnded}
-use Rattle.goscript.proofs.Walking.{jumpsAt, CheckerAt, BlocksAt, At, AddsNothing, Finds}
+use Rattle.goscript.proofs.Walking.{jumpsAt, CheckerAt, BlocksAt, At, AddsNothing}
 use Rattle.goscript.proofs.ContextRows.{context-new}
-use Rattle.goscript.proofs.ContextLists.{context-nested}
-use Rattle.goscript.proofs.BlockRows.{blocks-open, blocks-after}
 use Rattle.goscript.proofs.Stacked.{item-stacked}
 use Rattle.goscript.proofs.CurrentLabels.{adds-own, adds-kept, adds-ended}
 use Rattle.goscript.proofs.Arms.{list-walk}

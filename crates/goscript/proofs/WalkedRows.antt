@@ -1,40 +1,22 @@
 -- The walk of goscript's `stmt_branches` from the state at row x to the state at the row's end, by induction on the calls: a row's own work by the laws of its class, the rows below
 -- it by those of its children, each told where it stands.
 -- Assumes nothing.
-use mathlib.Core.Path.{_≡_, refl, sym, _∙_, ap}
+use mathlib.Core.Path.{_≡_, refl, sym, _∙_}
 use mathlib.Core.Bool.{Bool, true, false, _||_, not}
 use mathlib.Core.Logic.{_⊎_, inl, inr}
-use mathlib.Core.List.{List, [], _∷_, _++_}
+use mathlib.Core.List.{List, [], _∷_}
 use mathlib.Core.Option.{Option, none, some}
-use Prim.Native.Nat.{ℕ, zero, suc, _+_, _≤_, _<_}
+use Prim.Native.Nat.{ℕ, suc, _+_, _≤_, _<_}
 use native.Mathlib.Omega.{arith}
-use native.Mathlib.Decide.{decLt, ℕ-discrete}
+use native.Mathlib.Decide.{ℕ-discrete}
 use borrow.Author.Tests.{not-true}
 use Rattle.rules.specs.Scan.{lowest}
 use Rattle.rules.specs.Rows.{rowCount, name, size, end, Child, here}
-use Rattle.rules.specs.Class.{
-  Class,
-  declaration,
-  labeled,
-  block,
-  caseBlock,
-  commBlock,
-  if,
-  ifElse,
-  switch,
-  typeSwitch,
-  select,
-  for,
-  forCond,
-  oneOf,
-  isBranch,
-  isStatement,
-  class,
-}
+use Rattle.rules.specs.Class.{Class, declaration, labeled, if, ifElse, switch, typeSwitch, select, for, forCond, oneOf, isBranch, isStatement, class}
 use Rattle.rules.specs.Names.{isBlank}
-use Rattle.rules.specs.Body.{Body, OneChild, TwoChildren, fits}
+use Rattle.rules.specs.Body.{Body, OneChild, fits}
 use Rattle.rules.specs.Refusals.{body as oneBody, holding}
-use Rattle.rules.specs.Scope.{isList, isBlock, holdsItems, listOf}
+use Rattle.rules.specs.Scope.{isBlock, holdsItems}
 use Rattle.rules.specs.Labels.{isLabel}
 use Rattle.rules.proofs.Test.{case-of, clash, or-false}
 use Rattle.rules.proofs.Every.{every}
@@ -45,56 +27,19 @@ use Rattle.branches.proofs.WalkPending.{pending-other}
 use Rattle.branches.proofs.CanonRows.{body-end}
 use Rattle.goscript.specs.Build.{Place, original, mended, Build}
 use Rattle.goscript.specs.Syntax.{list}
-use Rattle.goscript.specs.Block.{Block, enclosing-target}
-use Rattle.goscript.specs.Context.{Context, with-jumps, with-lstmt}
-use Rattle.goscript.specs.Label.{State, Outgoing, in-ctx, append, afterLabeled, block-branches, stmt-branches}
-use Rattle.goscript.proofs.Walking.{jumpsAt, CheckerAt, ContextAt, BlocksAt, At, AddsNothing, Finds}
+use Rattle.goscript.specs.Block.{enclosing-target}
+use Rattle.goscript.specs.Label.{State, append, afterLabeled, block-branches, stmt-branches}
+use Rattle.goscript.proofs.Walking.{At, Finds}
 use Rattle.goscript.proofs.CheckerRows.{quiet-row}
 use Rattle.goscript.proofs.ContextRows.{context-same, context-lstmt}
 use Rattle.goscript.proofs.ContextLists.{context-nested}
 use Rattle.goscript.proofs.BlockRows.{blocks-same, blocks-open, blocks-after}
 use Rattle.goscript.proofs.Stacked.{below-label}
-use Rattle.goscript.proofs.CurrentLabels.{adds-kept, finds-below, finds-kept}
-use Rattle.goscript.proofs.Arms.{
-  isQuiet,
-  isClause,
-  hasBody,
-  Arm,
-  quiet,
-  declares,
-  labels,
-  breaks,
-  continues,
-  goes,
-  falls,
-  nests,
-  clauses,
-  one-part,
-  two-parts,
-  arm,
-  stays,
-  put-back,
-  at-blank,
-  at-label,
-  at-block,
-  at-clause,
-  at-body,
-  at-else,
-}
-use Rattle.goscript.proofs.LeafRows.{
-  Leaves,
-  kept,
-  left,
-  Walked,
-  quiet-walked,
-  declaration-walked,
-  fallthrough-walked,
-  goto-walked,
-  breaks-walked,
-  continues-walked,
-}
+use Rattle.goscript.proofs.CurrentLabels.{finds-below, finds-kept}
+use Rattle.goscript.proofs.Arms.{isClause, hasBody, labels, two-parts, stays, put-back, at-blank, at-label, at-block, at-clause, at-body, at-else}
+use Rattle.goscript.proofs.LeafRows.{Leaves, kept, left, Walked}
 use Rattle.goscript.proofs.LabelRows.{entered, entered-targets, entered-state, entered-current}
-use Rattle.goscript.proofs.Positions.{isPart, OnItem, bare, under, InItem, InPart, Position, item, part, stands, home-list, its-list, finds-here, finds-clause}
+use Rattle.goscript.proofs.Positions.{isPart, OnItem, bare, under, InItem, Position, item, part, stands, its-list, finds-here, finds-clause}
 use Rattle.goscript.proofs.WalkedLists.{Domain, Statements, list-walked}
 
 -- ---- rules of the classes

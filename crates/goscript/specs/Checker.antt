@@ -1,9 +1,8 @@
 -- What `labels` changes in goscript's `Checker`: the scope of all labels, which label objects are used, the errors, and the recorded definitions and uses.
 -- A label object is the row of its label.
 -- Assumes nothing.
-use mathlib.Core.Bool.{Bool, true, false, _&&_}
+use mathlib.Core.Bool.{true, false}
 use mathlib.Core.List.{List, [], _∷_, _++_}
-use mathlib.Core.Option.{Option, none, some}
 use Prim.Native.Nat.{ℕ, suc}
 use lib.Dec.{eqb}
 use Rattle.rules.specs.Names.{bytesBefore}

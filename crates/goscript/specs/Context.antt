@@ -1,7 +1,7 @@
 -- `StmtBranchesContext` of goscript's label.rs. A jump is the row of a goto.
 -- Assumes nothing.
 use mathlib.Core.Bool.{Bool, false}
-use mathlib.Core.List.{List, [], _∷_, _++_}
+use mathlib.Core.List.{List, []}
 use mathlib.Core.Option.{Option, none, some}
 use Prim.Native.Nat.{ℕ}
 use Rattle.goscript.specs.Syntax.{contains}

@@ -1,7 +1,7 @@
 -- Document 01: where stock goscript is equalled. Each domain is a test of a body's rows.
 -- Assumes nothing.
-use mathlib.Core.Bool.{Bool, true, false, _&&_, _||_, not}
-use mathlib.Core.List.{List, [], _∷_}
+use mathlib.Core.Bool.{Bool, false, _&&_, _||_, not}
+use mathlib.Core.List.{List}
 use Prim.Native.Nat.{ℕ, zero, suc}
 use lib.Dec.{ltb, leb}
 use Rattle.rules.specs.Scan.{lowest}

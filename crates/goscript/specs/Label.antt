@@ -1,6 +1,6 @@
 -- goscript's label.rs from `labels` on, function by function in the file's order. The first argument of the recursive ones bounds the depth of calls.
 -- Assumes nothing.
-use mathlib.Core.Bool.{Bool, true, false, _&&_, _||_, not}
+use mathlib.Core.Bool.{Bool, true, false, not}
 use mathlib.Core.List.{List, [], _∷_, _++_}
 use mathlib.Core.Option.{Option, none, some}
 use Prim.Native.Nat.{ℕ, zero, suc, _+_}
@@ -37,8 +37,8 @@ use Rattle.rules.specs.Class.{
   class,
 }
 use Rattle.rules.specs.Labels.{Fault, fault, each}
-use Rattle.goscript.specs.Build.{Place, original, mended, Build}
-use Rattle.goscript.specs.Syntax.{any, filter, through, contains, list, ident, lookup}
+use Rattle.goscript.specs.Build.{original, mended, Build}
+use Rattle.goscript.specs.Syntax.{filter, through, contains, list, ident, lookup}
 use Rattle.goscript.specs.Block.{Block, new as newBlock, insert as insertLabel, goto-target, enclosing-target}
 use Rattle.goscript.specs.Context.{Context, new as newContext, record-var-decl, jumps-over-var-decl, with-jumps, with-lstmt}
 use Rattle.goscript.specs.Checker.{Checker, new as newChecker, error, label-set-used, record-use, record-def, insert, bound}

@@ -1,7 +1,7 @@
 -- The rows as goscript's syntax tree: a statement, and its key, is a row; a `Vec<Stmt>` is a list of rows; an identifier's name is its bytes.
 -- Assumes nothing.
 use mathlib.Core.Bool.{Bool, true, false, _&&_, _||_}
-use mathlib.Core.List.{List, [], _∷_, _++_}
+use mathlib.Core.List.{List, [], _∷_}
 use mathlib.Core.Option.{Option, none, some}
 use Prim.Native.Nat.{ℕ, zero, suc}
 use lib.Dec.{ltb, eqb}
