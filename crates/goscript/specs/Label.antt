@@ -1,4 +1,5 @@
--- goscript's label.rs from `labels` on, function by function in the file's order. The first argument of the recursive ones bounds the depth of calls.
+-- goscript's label.rs from `labels` on, function by function. A definition stands after what it uses: so the parts of `stmt_branches` come first, then
+-- `block_branches` and `stmt_branches`, whose first argument bounds the depth of calls, and `labels` last.
 -- Assumes nothing.
 use mathlib.Core.Bool.{Bool, true, false, not}
 use mathlib.Core.List.{List, [], _∷_, _++_}

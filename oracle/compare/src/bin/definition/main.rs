@@ -2,9 +2,11 @@
 //! file of definitions that crate `goscript_cases` computes.
 
 mod chosen;
+mod summary;
 mod terms;
 
 use std::process::ExitCode;
+use summary::Summary;
 
 const HELP: &str = "\
 definition FILE writes bodies with the answers of both builds of goscript, as
@@ -27,10 +29,12 @@ fn main() -> ExitCode {
 }
 
 fn write(path: &str) -> ExitCode {
-    let (cases, summary) = chosen::all();
+    let cases = chosen::all();
+    let summary = Summary::of(&cases);
     println!("{summary}");
-    if let Err(missing) = summary.complete() {
-        eprintln!("not written: never occurs: {missing}");
+    let missing = summary.missing();
+    if !missing.is_empty() {
+        eprintln!("not written: never occurs: {}", missing.join(", "));
         return ExitCode::FAILURE;
     }
     match std::fs::write(path, terms::file(&cases)) {

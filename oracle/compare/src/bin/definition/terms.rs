@@ -35,7 +35,11 @@ fn term(Case { body, stock, mended }: &Case) -> String {
 }
 
 fn answer(Answer { sheet, bindings, terminating }: &Answer) -> String {
-    format!("(record {{ sheet = {}; bindings = {}; verdict = {terminating} }})", list(&sheet.concat()), list(bindings))
+    format!(
+        "(record {{ sheet = {}; bindings = {}; verdict = {terminating} }})",
+        list(&sheet.concat()),
+        list(bindings)
+    )
 }
 
 fn list(words: &[u32]) -> String {
