@@ -1,4 +1,4 @@
--- What `stmt_branches` does at a row, by the arm of its match that the row's class takes. Nobody else opens the definition.
+-- What `stmt_branches` does at a row, by the arm of its match that the row's class takes: there the definition computes. Nobody else opens it.
 -- Assumes nothing.
 use mathlib.Core.Path.{_≡_, refl}
 use mathlib.Core.Bool.{Bool, true, false}
@@ -47,16 +47,14 @@ use Rattle.goscript.specs.Block.{Block, new as newBlock, goto-target, en
 use Rattle.goscript.specs.Context.{new as newContext, record-var-decl, with-jumps, with-lstmt}
 use Rattle.goscript.specs.Checker.{Checker, error}
 use Rattle.goscript.specs.Label.{State, in-checker, in-ctx, append, outgoing, afterLabeled, declare, resolveAll, valid, recordLabelUse, labelledBreak, gotoBranch, labelled, block-branches, stmt-branches}
+use Rattle.goscript.proofs.OneBlock.{hasBlock}
 
--- rows that change nothing; clauses; statements with one Block
+-- rows that change nothing; clauses
 abbrev pub isQuiet : Class → Bool
 isQuiet = oneOf (plain ∷ empty ∷ stop ∷ [])
 
 abbrev pub isClause : Class → Bool
 isClause = oneOf (case ∷ defaultCase ∷ comm ∷ defaultComm ∷ [])
-
-abbrev pub hasBody : Class → Bool
-hasBody = oneOf (if ∷ switch ∷ typeSwitch ∷ select ∷ for ∷ forCond ∷ [])
 
 -- the arm that a class takes
 pub data Arm (c : Class) : Type 0 where
@@ -69,7 +67,7 @@ pub data Arm (c : Class) : Type 0 where
   falls : c ≡ fallthrough → Arm c
   nests : isBlock c ≡ true → Arm c
   clauses : isClause c ≡ true → Arm c
-  one-part : hasBody c ≡ true → Arm c
+  one-part : hasBlock c ≡ true → Arm c
   two-parts : c ≡ ifElse → Arm c
 
 pub arm : (c : Class) → Arm c
@@ -190,7 +188,7 @@ module _ (build : Build) (w p b : List ℕ) where
     at-clause t = by-one _ (case ∷ defaultCase ∷ comm ∷ defaultComm ∷ []) (class w s) t
         (λ e. rw (e, stmt-branches)) (λ e. rw (e, stmt-branches)) (λ e. rw (e, stmt-branches)) (λ e. rw (e, stmt-branches))
 
-    pub at-body : hasBody (class w s) ≡ true → stmt-branches build w p b (suc f) s state ≡ stmt-branches build w p b f (suc s) state
+    pub at-body : hasBlock (class w s) ≡ true → stmt-branches build w p b (suc f) s state ≡ stmt-branches build w p b f (suc s) state
     unfolding stmt-branches
     at-body t = by-one _ (if ∷ switch ∷ typeSwitch ∷ select ∷ for ∷ forCond ∷ []) (class w s) t
         (λ e. rw (e, stmt-branches)) (λ e. rw (e, stmt-branches)) (λ e. rw (e, stmt-branches))

@@ -1,5 +1,6 @@
--- The blocks of the walk, row by row. A goto sees a label where it is the declared one of its name, stands before the row that the walk has come to, and its list is around the
--- goto: a label declared in the list is seen from then on, one declared in a list that has ended is not seen after it, and a repeated label never.
+-- The blocks of the walk, row by row. A goto sees a label where it is the declared one of its name, stands before the row that the walk has come to, and its
+-- list is around the goto: a label declared in the list is seen from then on, one declared in a list that has ended is not seen after it, and a repeated label
+-- never.
 -- Assumes nothing.
 use mathlib.Core.Path.{_≡_, refl, sym, _∙_, ap}
 use mathlib.Core.Bool.{Bool, true, false, _&&_}
@@ -15,18 +16,20 @@ use Rattle.rules.specs.Rows.{rowCount, end}
 use Rattle.rules.specs.Class.{labeled, class}
 use Rattle.rules.specs.Names.{sameBytes}
 use Rattle.rules.specs.Body.{Body}
-use Rattle.rules.specs.Scope.{isList, holdsItems, listOf, inListOf}
-use Rattle.rules.specs.Labels.{isLabel, labels, declared, earlier, sameNames}
+use Rattle.rules.specs.Scope.{holdsItems, listOf, inListOf}
+use Rattle.rules.specs.Labels.{isLabel, declared, earlier, sameNames}
 use Rattle.rules.proofs.Test.{case-of, case-found, clash}
 use Rattle.rules.proofs.RowNames.{same-sym}
 use Rattle.rules.proofs.LabelRows.{is-declared, is-labels}
 use Rattle.rules.proofs.GotoRows.{list-some, in-list}
-use Rattle.rules.proofs.Around.{innermost-found, innermost-last}
+use Rattle.rules.proofs.Around.{innermost-last}
 use Rattle.rules.proofs.Lists.{statement-list}
 use Rattle.branches.proofs.CanonRows.{label-class, body-end}
 use Rattle.goscript.specs.Syntax.{ident, lookup}
 use Rattle.goscript.specs.Block.{Block, new, insert, search, goto-target, enclosing-target}
 use Rattle.goscript.proofs.SameNames.{same-ident, declared-same, declared-own}
+use Rattle.goscript.proofs.ScopeRows.{lookup-append}
+use Rattle.goscript.proofs.ContextRows.{list-around}
 use Rattle.goscript.proofs.Walking.{visible, targetBefore, BlocksAt, Finds}
 
 -- ---- what a goto sees
@@ -45,7 +48,7 @@ module _ (w p b : List ℕ) where
   visible-some x g d e = rw (e, visible)
 
   -- no label between x and y is one that it sees
-  pub visible-same : (x y g : ℕ) → x ≤ y → ((d : ℕ) → x ≤ d → d < y → declared w p b 0 g ≡ some d → inListOf w 0 d g ≡ true → ⊥)
+  visible-same : (x y g : ℕ) → x ≤ y → ((d : ℕ) → x ≤ d → d < y → declared w p b 0 g ≡ some d → inListOf w 0 d g ≡ true → ⊥)
       → visible w p b y g ≡ visible w p b x g
   visible-same x y g h n = case-found (declared w p b 0 g)
       (λ d e. visible-some y g d e ∙ ap (λ (t : Bool). elim t [ true ↦ some d | false ↦ none ]) (seen d e) ∙ sym (visible-some x g d e))
@@ -60,10 +63,10 @@ module _ (w p b : List ℕ) where
         ]
       ]
 
-  pub visible-new : (x g : ℕ) → declared w p b 0 g ≡ some x → inListOf w 0 x g ≡ true → visible w p b (suc x) g ≡ some x
+  visible-new : (x g : ℕ) → declared w p b 0 g ≡ some x → inListOf w 0 x g ≡ true → visible w p b (suc x) g ≡ some x
   visible-new x g e t = rw (visible-some (suc x) g x e, lt-ltb x (suc x) (omega arith), t)
 
-  pub visible-not-yet : (x g : ℕ) → declared w p b 0 g ≡ some x → visible w p b x g ≡ none
+  visible-not-yet : (x g : ℕ) → declared w p b 0 g ≡ some x → visible w p b x g ≡ none
   visible-not-yet x g e = rw (visible-some x g x e, le-ltb x x (omega arith))
 
   visible-first : (g : ℕ) → visible w p b 0 g ≡ none
@@ -73,14 +76,7 @@ module _ (w p b : List ℕ) where
 
 -- ---- the chain of blocks
 module _ (w p b : List ℕ) where
-  -- a label put into the innermost block
-  lookup-last : (n : List ℕ) (ls : List ℕ) (x : ℕ) → lookup w p b n (ls ++ x ∷ [])
-      ≡ elim (lookup w p b n ls) [ some r ↦ some r | none ↦ elim (sameBytes (ident w p b x) n) [ true ↦ some x | false ↦ none ] ]
-  unfolding lookup
-  lookup-last n [] x = refl
-  lookup-last n (r ∷ rs) x = case-of (sameBytes (ident w p b r) n) (λ t. rw (t, lookup)) (λ f. rw (f, lookup) (lookup-last n rs x))
-
-  -- it changes no labelled statement
+  -- a label put into the innermost block changes no labelled statement
   pub insert-targets : (n : List ℕ) (x : ℕ) (blocks : List Block) → enclosing-target w p b n (insert x blocks) ≡ enclosing-target w p b n blocks
   unfolding enclosing-target insert search
   insert-targets n x [] = refl
@@ -89,16 +85,16 @@ module _ (w p b : List ℕ) where
   -- it is found where its name is asked for and none was
   module _ (n : List ℕ) (x : ℕ) (block : Block) (parents : List Block) where
     insert-found : sameBytes (ident w p b x) n ≡ true → goto-target w p b n (block ∷ parents) ≡ none → goto-target w p b n (insert x (block ∷ parents)) ≡ some x
-    unfolding goto-target insert search
+    unfolding goto-target insert search lookup
     insert-found t e = case-found (lookup w p b n (block .labels))
         (λ r f. let z : some r ≡ none = rw (f, search) at e in absurd (clash (cc)))
-        (λ f. rw (lookup-last n (block .labels) x, f, t, search))
+        (λ f. rw (lookup-append w p b n (block .labels) (x ∷ []), f, t, search, lookup))
 
     insert-other : sameBytes (ident w p b x) n ≡ false → goto-target w p b n (insert x (block ∷ parents)) ≡ goto-target w p b n (block ∷ parents)
-    unfolding goto-target insert search
+    unfolding goto-target insert search lookup
     insert-other t = case-found (lookup w p b n (block .labels))
-        (λ r f. rw (lookup-last n (block .labels) x, f, search))
-        (λ f. rw (lookup-last n (block .labels) x, f, t, search))
+        (λ r f. rw (lookup-append w p b n (block .labels) (x ∷ []), f, search))
+        (λ f. rw (lookup-append w p b n (block .labels) (x ∷ []), f, t, search, lookup))
 
   -- a block without labels hides none
   new-gotos : (n : List ℕ) (lstmt : Option ℕ) (blocks : List Block) → goto-target w p b n (new lstmt ∷ blocks) ≡ goto-target w p b n blocks
@@ -124,19 +120,24 @@ module _ {w p b : List ℕ} (body : Body w p b) where
   not-declared : (g d : ℕ) → (class w d ≡ labeled → ⊥) → declared w p b 0 g ≡ some d → ⊥
   not-declared g d n e = let (h, t) = declared-row g d e in n (label-class body d h t)
 
-  -- ---- a row that declares no label
-  pub blocks-same : (l x : ℕ) (blocks : List Block) → (isLabel w p b 0 x ≡ true → declared w p b 0 x ≡ some x → ⊥)
-      → BlocksAt w p b l x blocks → BlocksAt w p b l (suc x) blocks
-  blocks-same l x blocks n a = record {
+  -- ---- from row x to row y, where a goto behind sees no label between
+  blocks-kept : (l x y : ℕ) (blocks : List Block) → x ≤ y
+      → ((g d : ℕ) → y ≤ g → x ≤ d → d < y → declared w p b 0 g ≡ some d → inListOf w 0 d g ≡ true → ⊥)
+      → BlocksAt w p b l x blocks → BlocksAt w p b l y blocks
+  blocks-kept l x y blocks h n a = record {
     innermost = a .innermost;
     parents = a .parents;
     some-blocks = a .some-blocks;
-    gotos = λ g h m k. a .gotos g h (omega arith) k ∙ sym (visible-same w p b x (suc x) g (omega arith)
-        (λ d y z e t.
-        let i : d ≡ x = omega arith in
-        n (rw i at (declared-row g d e .1)) (rw i at (declared-own w p b g d e))));
+    gotos = λ g i m k. a .gotos g i (omega arith) k ∙ sym (visible-same w p b x y g h (λ d. n g d m));
     targets = a .targets;
   }
+
+  -- ---- a row that declares no label
+  pub blocks-same : (l x : ℕ) (blocks : List Block) → (isLabel w p b 0 x ≡ true → declared w p b 0 x ≡ some x → ⊥)
+      → BlocksAt w p b l x blocks → BlocksAt w p b l (suc x) blocks
+  blocks-same l x blocks n = blocks-kept l x (suc x) blocks (omega arith) (λ g d m y z e t.
+      let i : d ≡ x = omega arith in
+      n (rw i at (declared-row g d e .1)) (rw i at (declared-own w p b g d e)))
 
   -- ---- a label declared in the list
   pub blocks-declare : (l x : ℕ) (blocks : List Block) → declared w p b 0 x ≡ some x → listOf w 0 x ≡ some l
@@ -163,24 +164,13 @@ module _ {w p b : List ℕ} (body : Body w p b) where
         targets = λ g h m t. insert-targets w p b (ident w p b g) x (block ∷ parents) ∙ a .targets g h m t;
       }
 
-  list-before : (d q : ℕ) → listOf w 0 d ≡ some q → q < d
-  unfolding listOf
-  list-before d q f = innermost-found w 0 isList d q f .before
-
   -- ---- a list inside the list, at its end
   pub blocks-after : (l k : ℕ) (blocks : List Block) → l < k → k < rowCount w → holdsItems (class w k) ≡ true
       → BlocksAt w p b l k blocks → BlocksAt w p b l (end w k) blocks
-  blocks-after l k blocks h row t a = record {
-    innermost = a .innermost;
-    parents = a .parents;
-    some-blocks = a .some-blocks;
-    gotos = λ g i m n. a .gotos g i (omega (arith, body .sized .some-rows k row)) n
-        ∙ sym (visible-same w p b k (end w k) g (omega arith) (λ d y z e v. hidden g d y z m e v));
-    targets = a .targets;
-  }
+  blocks-after l k blocks h row t = blocks-kept l k (end w k) blocks (omega arith) hidden
     where
-      hidden : (g d : ℕ) → k ≤ d → d < end w k → end w k ≤ g → declared w p b 0 g ≡ some d → inListOf w 0 d g ≡ true → ⊥
-      hidden g d y z m e v =
+      hidden : (g d : ℕ) → end w k ≤ g → k ≤ d → d < end w k → declared w p b 0 g ≡ some d → inListOf w 0 d g ≡ true → ⊥
+      hidden g d m y z e v =
           let (in-rows, lb) = declared-row g d e in
           let c = label-class body d in-rows lb in
           let (q, f, i, j) = in-list w 0 d g v in
@@ -190,7 +180,7 @@ module _ {w p b : List ℕ} (body : Body w p b) where
               | yes n ↦ innermost-last w 0 holdsItems d q k (sym (statement-list body 0 d in-rows (rw c)) ∙ f) n
                   (record { before = omega arith; from = omega arith; reaches = z; passes = t })
               | no n ↦
-                  let r = list-before d q f in
+                  let r = list-around w q d f .0 in
                   elim (ℕ-discrete q k) [
                     | yes s ↦ let u : end w q ≡ end w k = ap (end w) s in omega arith
                     | no p ↦ omega (arith, body .nested k q row (omega arith) (omega arith))

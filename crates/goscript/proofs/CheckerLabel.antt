@@ -1,13 +1,13 @@
--- What a label, not `_`, does to the checker. `declare` finds the declared label of its name before it, and reports both rows, or finds none, and places the label: then
--- it is the declared one. `resolveAll` goes through the jumps of the list: those of the label's name are the gotos before it that it resolves, so each is bound to it,
--- and is reported where it stands before the latest declaration of the list.
+-- What a label, not `_`, does to the checker. `declare` finds the declared label of its name before it, and reports both rows, or finds none, and places the
+-- label: then it is the declared one. `resolveAll` goes through the jumps of the list: those of the label's name are the gotos before it that it resolves, so
+-- each is bound to it, and is reported where it stands before the latest declaration of the list.
 -- Assumes nothing.
 use mathlib.Core.Path.{_≡_, refl, sym, _∙_, ap, subst}
 use mathlib.Core.Bool.{true, false, _&&_}
 use mathlib.Core.Logic.{inl, inr}
 use mathlib.Core.List.{List, _++_, append-nil, append-assoc}
-use mathlib.Core.Option.{none, some}
-use Prim.Native.Nat.{ℕ, zero, suc, _≤_, _<_}
+use mathlib.Core.Option.{some}
+use Prim.Native.Nat.{ℕ, suc, _<_}
 use native.Mathlib.Omega.{arith}
 use native.Mathlib.Decide.{ℕ-discrete, decLt}
 use lib.Dec.{ltb}
@@ -17,7 +17,6 @@ use Rattle.rules.specs.Scope.{listOf}
 use Rattle.rules.specs.Body.{Body}
 use Rattle.rules.specs.Labels.{Fault, each, is, isLabel, declared, jumpsOver, repeated}
 use Rattle.rules.proofs.Test.{case-of, case-found}
-use Rattle.rules.proofs.Each.{each-zero, each-suc}
 use Rattle.rules.proofs.Found.{found-is}
 use Rattle.rules.proofs.RowNames.{same-own}
 use Rattle.rules.proofs.LabelRows.{labels-is, some-declared}
@@ -30,16 +29,14 @@ use Rattle.goscript.specs.Syntax.{through, contains, ident, lookup}
 use Rattle.goscript.specs.Context.{Context}
 use Rattle.goscript.specs.Checker.{Checker}
 use Rattle.goscript.specs.Label.{State, declare, resolve, resolveAll}
-use Rattle.goscript.proofs.Walking.{before, allAt, useAt, CheckerAt, jumpsAt, ContextAt}
-use Rattle.goscript.proofs.ScopeRows.{all-placed, all-same, lookup-all}
+use Rattle.goscript.proofs.Loops.{each-same}
+use Rattle.goscript.proofs.Passing.{passing}
+use Rattle.goscript.proofs.Walking.{allAt, useAt, CheckerAt, jumpsAt, ContextAt}
+use Rattle.goscript.proofs.ScopeRows.{all-placed, all-same, found-before, none-yet}
 use Rattle.goscript.proofs.UseRows.{contains-more, contains-own, below-other}
-use Rattle.goscript.proofs.ResolveRows.{throughEach, reports, reports-is, reports-not, Resolved, resolved}
-use Rattle.goscript.proofs.TakenRows.{waitsIn, takes, use-taken, use-waits, use-other, over-taken, over-not}
-
--- two that agree at each number below n
-each-same : (f h : ℕ → List Fault) (n : ℕ) → ((k : ℕ) → k < n → f k ≡ h k) → each f n ≡ each h n
-each-same f h zero e = each-zero f ∙ sym (each-zero h)
-each-same f h (suc n) e = rw (each-suc f n, each-suc h n, each-same f h n (λ k l. e k (omega arith)), e n (omega arith))
+use Rattle.goscript.proofs.ContextRows.{waits}
+use Rattle.goscript.proofs.ResolveRows.{reports, reports-is, reports-not, Resolved, resolved}
+use Rattle.goscript.proofs.TakenRows.{takes, use-taken, use-waits, use-other, over-taken, over-not}
 
 -- `declare` leaves the context as it is
 pub declare-ctx : (build : Build) (w p b : List ℕ) (x : ℕ) (s : State) → declare build w p b x s .ctx ≡ s .ctx
@@ -55,19 +52,18 @@ module _ {w p b : List ℕ} (body : Body w p b) (x : ℕ) (row : x < rowCount w)
     same-uses : e .uses ≡ c .uses
     same-used : e .used ≡ c .used
 
-  own : (d : ℕ) × (declared w p b 0 x ≡ some d) × (d ≤ x)
-  own = some-declared w p b 0 x x (omega (arith, body-end body)) (labels-is w p b 0 x x label (same-own w p b x))
+  -- it is the first of its name, or a label before it is
+  pub by-first : {G : Type 0} → (declared w p b 0 x ≡ some x → G) → ((d : ℕ) → declared w p b 0 x ≡ some d → d < x → G) → G
+  by-first first again =
+      let (d, e, h) = some-declared w p b 0 x x (omega (arith, body-end body)) (labels-is w p b 0 x x label (same-own w p b x)) in
+      elim (ℕ-discrete d x) [ yes i ↦ first (e ∙ ap some i) | no n ↦ again d e (omega arith) ]
 
   module _ (build : Build) (s : State) (at : CheckerAt w p b x (s .checker)) where
-    looked-up : lookup w p b (ident w p b x) (s .checker .all) ≡ before x (declared w p b 0 x)
-    looked-up = rw (at .all-are) (lookup-all body x x row)
-
     -- the declared label of its name
     first-placed : declared w p b 0 x ≡ some x → Placed (s .checker) (declare build w p b x s .checker)
     unfolding declare
     first-placed e =
-        let none-yet : lookup w p b (ident w p b x) (s .checker .all) ≡ none = looked-up ∙ rw (e, le-ltb x x (omega arith), before) in
-        rw (none-yet, declare) (record {
+        rw (none-yet body x x x (s .checker) at e (omega arith), declare) (record {
           all-are = rw (at .all-are) (all-placed body x row label e);
           errors-are = rw (repeated-not w p b 0 x e) (sym (append-nil (s .checker .errors)));
           defs-are = λ r. elim (ℕ-discrete r x) [
@@ -83,8 +79,7 @@ module _ {w p b : List ℕ} (body : Body w p b) (x : ℕ) (row : x < rowCount w)
     unfolding declare
     again-placed d e h =
         let n : d ≡ x → ⊥ = λ i. omega arith in
-        let found : lookup w p b (ident w p b x) (s .checker .all) ≡ some d = looked-up ∙ rw (e, lt-ltb d x h, before) in
-        rw (found, declare) (record {
+        rw (found-before body x x d (s .checker) at e h, declare) (record {
           all-are = at .all-are ∙ sym (all-same body x (λ t f. n (cc)));
           errors-are = rw (repeated-is w p b 0 x d e n);
           defs-are = λ r. at .defs-are r ∙ elim (ℕ-discrete r x) [
@@ -96,26 +91,24 @@ module _ {w p b : List ℕ} (body : Body w p b) (x : ℕ) (row : x < rowCount w)
         })
 
     placed : Placed (s .checker) (declare build w p b x s .checker)
-    placed =
-        let (d, e, h) = own in
-        elim (ℕ-discrete d x) [ yes i ↦ first-placed (e ∙ ap some i) | no n ↦ again-placed d e (omega arith) ]
+    placed = by-first first-placed again-placed
 
   -- ---- the jumps that it resolves
   module _ (build : Build) (l : ℕ) (listed : listOf w 0 x ≡ some l) (c e : Checker) (ctx : Context) (at : CheckerAt w p b x c) (in-list : ContextAt w p b l x ctx)
       (first : Placed c e) where
     abbrev after : Checker
-    after = throughEach (resolve build w p b x ctx) (waitsIn w p b l x) e x
+    after = through (resolve build w p b x ctx) (passing (waits w p b l x) x) e
 
-    gives : Resolved build w p b x ctx (waitsIn w p b l x) e x after
-    gives = resolved build w p b x ctx (waitsIn w p b l x) e x
+    gives : Resolved build w p b x ctx (waits w p b l x) e x after
+    gives = resolved build w p b x ctx (waits w p b l x) e x
 
     abbrev found : ℕ → List Fault
-    found = reports w p b x ctx (waitsIn w p b l x)
+    found = reports w p b x ctx (waits w p b l x)
 
     reported : each found x ≡ each (jumpsOver w p b 0 x) x
     reported = each-same found (jumpsOver w p b 0 x) x (λ g h. case-of (takes w p b l x g)
-        (λ t. reports-is w p b x ctx (waitsIn w p b l x) g t ∙ over-taken body l x row label listed g h ctx in-list t)
-        (λ f. reports-not w p b x ctx (waitsIn w p b l x) g f ∙ sym (over-not body l x row label listed g h f)))
+        (λ t. reports-is w p b x ctx (waits w p b l x) g t ∙ over-taken body l x row label listed g h ctx in-list t)
+        (λ f. reports-not w p b x ctx (waits w p b l x) g f ∙ sym (over-not body l x row label listed g h f)))
 
     all-errors : e .errors ++ each found x ≡ faultsAt w p b (suc x)
     all-errors = rw (first .errors-are, at .errors-are, reported)

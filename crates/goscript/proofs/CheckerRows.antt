@@ -1,5 +1,5 @@
--- What a row that is no label does to the checker: it reports its faults, and a branch that is bound to a label before it records that use. Nothing else changes, since
--- only a label is placed in the scope, has a definition, or resolves a goto before it.
+-- What a row that is no label does to the checker: it reports its faults, and a branch that is bound to a label before it records that use. Nothing else
+-- changes, since only a label is placed in the scope, has a definition, or resolves a goto before it.
 -- Assumes nothing.
 use mathlib.Core.Path.{_≡_, sym, _∙_, ap, subst}
 use mathlib.Core.Bool.{Bool, true, false, _&&_}
@@ -33,13 +33,17 @@ use Rattle.goscript.specs.Build.{Build}
 use Rattle.goscript.specs.Syntax.{ident, lookup}
 use Rattle.goscript.specs.Checker.{Checker, error, label-set-used, record-use}
 use Rattle.goscript.specs.Label.{State, recordLabelUse}
-use Rattle.goscript.proofs.Walking.{before, allAt, useAt, CheckerAt}
-use Rattle.goscript.proofs.ScopeRows.{all-same, lookup-all}
-use Rattle.goscript.proofs.UseRows.{used-own, used-other, contains-own, contains-kept, contains-cases, below-other, use-branch, use-from, use-kept, use-own}
+use Rattle.goscript.proofs.Walking.{allAt, useAt, CheckerAt}
+use Rattle.goscript.proofs.ScopeRows.{all-same, found-before}
+use Rattle.goscript.proofs.UseRows.{used-own, used-other, contains-own, contains-kept, contains-cases}
+use Rattle.goscript.proofs.UseRows.{below-other, use-branch, use-from, use-kept, use-same}
 
--- no error more
+-- the checker with other errors, and with none more
+abbrev pub with-errors : Checker → List Fault → Checker
+with-errors c es = record { all = c .all; used = c .used; errors = es; defs = c .defs; uses = c .uses }
+
 pub error-none : (c : Checker) → error [] c ≡ c
-error-none c = ap (λ (es : List Fault). record { all = c .all; used = c .used; errors = es; defs = c .defs; uses = c .uses }) (append-nil (c .errors))
+error-none c = ap (with-errors c) (append-nil (c .errors))
 
 -- the code of a break or continue whose target is not valid
 abbrev pub breakCode : Class → ℕ
@@ -67,31 +71,31 @@ module _ {w p b : List ℕ} (body : Body w p b) where
     ]
 
     use-before : (g : ℕ) → (g ≡ x → ⊥) → useAt w p b (suc x) g ≡ useAt w p b x g
-    use-before g o = use-kept w p b x g o (binding-same w p b x g (not-later w p b x g n))
+    use-before g o = use-kept w p b x g o (λ m. binding-same w p b x g (not-later w p b x g n))
 
     -- where it is bound to nothing
-    use-same : (isBranch (class w x) ≡ true → bindingAt w p b (suc x) x ≡ 0) → (g : ℕ) → useAt w p b (suc x) g ≡ useAt w p b x g
-    use-same h g = elim (ℕ-discrete g x) [ yes e ↦ rw e (use-own w p b x h) | no o ↦ use-before g o ]
+    none-used : (isBranch (class w x) ≡ true → bindingAt w p b (suc x) x ≡ 0) → (g : ℕ) → useAt w p b (suc x) g ≡ useAt w p b x g
+    none-used h g = use-same w p b x g h (λ m. binding-same w p b x g (not-later w p b x g n))
 
   -- one that reports these faults and is bound to nothing
-  pub checker-error : (x : ℕ) (c : Checker) (fs : List Fault) → isLabel w p b 0 x ≡ false → report w p b 0 x ≡ fs
+  checker-error : (x : ℕ) (c : Checker) (fs : List Fault) → isLabel w p b 0 x ≡ false → report w p b 0 x ≡ fs
       → (isBranch (class w x) ≡ true → bindingAt w p b (suc x) x ≡ 0) → CheckerAt w p b x c → CheckerAt w p b (suc x) (error fs c)
   checker-error x c fs n r h y = record {
     all-are = y .all-are ∙ sym (all-kept x n);
     errors-are = ap (λ (es : List Fault). es ++ fs) (y .errors-are) ∙ sym (faults-suc w p b x ∙ rw r);
     defs-are = λ r. y .defs-are r ∙ sym (definition-kept x n r);
-    uses-are = λ g. y .uses-are g ∙ sym (use-same x n h g);
-    used-by = λ d t. let (g, e) = y .used-by d t in (g, use-same x n h g ∙ e);
-    is-used = λ d g e. y .is-used d g (sym (use-same x n h g) ∙ e);
+    uses-are = λ g. y .uses-are g ∙ sym (none-used x n h g);
+    used-by = λ d t. let (g, e) = y .used-by d t in (g, none-used x n h g ∙ e);
+    is-used = λ d g e. y .is-used d g (sym (none-used x n h g) ∙ e);
   }
 
   -- none at all
-  pub checker-same : (x : ℕ) (c : Checker) → isLabel w p b 0 x ≡ false → report w p b 0 x ≡ []
+  checker-same : (x : ℕ) (c : Checker) → isLabel w p b 0 x ≡ false → report w p b 0 x ≡ []
       → (isBranch (class w x) ≡ true → bindingAt w p b (suc x) x ≡ 0) → CheckerAt w p b x c → CheckerAt w p b (suc x) c
   checker-same x c n r h y = subst (λ (e : Checker). CheckerAt w p b (suc x) e) (error-none c) (checker-error x c [] n r h y)
 
   -- ---- a branch that is bound to the label d
-  pub checker-use : (x d : ℕ) (c : Checker) → isBranch (class w x) ≡ true → report w p b 0 x ≡ [] → bindingAt w p b (suc x) x ≡ suc d
+  checker-use : (x d : ℕ) (c : Checker) → isBranch (class w x) ≡ true → report w p b 0 x ≡ [] → bindingAt w p b (suc x) x ≡ suc d
       → CheckerAt w p b x c → CheckerAt w p b (suc x) (record-use x d (label-set-used d c))
   checker-use x d c t r e y = record {
     all-are = y .all-are ∙ sym (all-kept x n);
@@ -155,8 +159,7 @@ module _ {w p b : List ℕ} (body : Body w p b) where
           → bindingAt w p b (suc x) x ≡ suc d → CheckerAt w p b x (s .checker) → CheckerAt w p b (suc x) (recordLabelUse build w p b x s .checker)
       unfolding recordLabelUse
       use-recorded build s d e h t r i y =
-          let found : lookup w p b (ident w p b x) (s .checker .all) ≡ some d = rw (y .all-are, lookup-all body x x row, e, lt-ltb d x h, before) in
-          rw (found, recordLabelUse) (checker-use x d (s .checker) t r i y)
+          rw (found-before body x x d (s .checker) y e h, recordLabelUse) (checker-use x d (s .checker) t r i y)
 
       -- a break or continue with a label
       module _ (k : Class) (e : class w x ≡ k) (breaks : oneOf (break ∷ continue ∷ []) k ≡ true) (z : 0 < name w x) where

@@ -90,7 +90,7 @@ module _ {w p b : List ℕ} (body : Body w p b) (k : ℕ) (row : k < rowCount w)
 
 -- a list k inside the list l, from its first row to its end: what waits there joins
 pub context-nested : {w p b : List ℕ} (body : Body w p b) (l k : ℕ) (ctx : Context) → l < k → k < rowCount w → holdsItems (class w k) ≡ true
-    → end w k ≤ end w l → ContextAt w p b l k ctx → ContextAt w p b l (end w k) (with-jumps (ctx .fwd-jumps ++ jumpsAt w p b k (end w k)) ctx)
-context-nested {w} {p} {b} body l k ctx h row items _ c =
+    → ContextAt w p b l k ctx → ContextAt w p b l (end w k) (with-jumps (ctx .fwd-jumps ++ jumpsAt w p b k (end w k)) ctx)
+context-nested {w} {p} {b} body l k ctx h row items c =
     context-kept w p b l k (end w k) ctx (ctx .fwd-jumps ++ jumpsAt w p b k (end w k)) (omega arith) (latest-past body k row items l h)
     (ap (λ (js : List ℕ). js ++ jumpsAt w p b k (end w k)) (c .jumps-are) ∙ sym (jumps-past body k row items l h)) c

@@ -1,7 +1,7 @@
 -- What each row does to the context of a list. A goto that is pending at a row was pending at the rows before, so whether it jumps over a declaration
 -- changes only where the list declares something; and of the pending gotos in the list, a label of the list resolves those of its name.
 -- Assumes nothing.
-use mathlib.Core.Path.{_≡_, refl, sym, _∙_, ap}
+use mathlib.Core.Path.{_≡_, sym, _∙_, ap}
 use mathlib.Core.Bool.{Bool, true, false, _&&_, not, and-false, and-true as and-yes}
 use mathlib.Core.List.{List, [], _∷_, _++_}
 use mathlib.Core.Option.{Option, none, some}
@@ -9,13 +9,13 @@ use Prim.Native.Nat.{ℕ, suc, _≤_, _<_}
 use native.Mathlib.Omega.{arith}
 use native.Mathlib.Decide.{decLt}
 use lib.Dec.{ltb}
-use borrow.Author.Tests.{lt-ltb, le-ltb}
+use borrow.Author.Tests.{lt-ltb, le-ltb, ltb-true}
 use Rattle.rules.specs.Rows.{rowCount, position, end}
 use Rattle.rules.specs.Class.{declaration, labeled, goto, class}
-use Rattle.rules.specs.Names.{sameBytes, sameName}
+use Rattle.rules.specs.Names.{sameBytes}
 use Rattle.rules.specs.Scope.{isList, listOf, inListOf}
 use Rattle.rules.specs.Body.{Body}
-use Rattle.rules.specs.Labels.{is, isClass, sameNames, isLabel, earlier, later, pending}
+use Rattle.rules.specs.Labels.{is, isClass, isLabel, earlier, later, pending}
 use Rattle.rules.proofs.Test.{case-of, clash, and-true}
 use Rattle.rules.proofs.ClassTests.{one-is}
 use Rattle.rules.proofs.Every.{is-one}
@@ -31,15 +31,19 @@ use Rattle.branches.proofs.WalkBindings.{not-later}
 use Rattle.branches.proofs.CanonRows.{label-class}
 use Rattle.goscript.specs.Syntax.{filter, contains, ident}
 use Rattle.goscript.specs.Context.{Context, new, record-var-decl, with-jumps, with-lstmt}
+use Rattle.goscript.proofs.SameNames.{same-ident}
 use Rattle.goscript.proofs.Passing.{passing, passing-none, passing-yes, passing-no, passing-same, contains-passing, filter-passing}
 use Rattle.goscript.proofs.Walking.{jumpsAt, ContextAt}
 
-module _ (w p b : List ℕ) where
-  -- ---- the list of a row begins before it
-  list-before : (l d : ℕ) → listOf w 0 d ≡ some l → (l < d) × (d < end w l)
-  unfolding listOf
-  list-before l d e = let i = innermost-found w 0 isList d l e in (i .before, i .reaches)
+-- ---- the list of a row is around it, and around what stands between
+pub list-around : (w : List ℕ) (l d : ℕ) → listOf w 0 d ≡ some l → (l < d) × (d < end w l)
+unfolding listOf
+list-around w l d e = let i = innermost-found w 0 isList d l e in (i .before, i .reaches)
 
+pub in-its-list : (w : List ℕ) (l d g : ℕ) → listOf w 0 d ≡ some l → l < g → g < d → inListOf w 0 d g ≡ true
+in-its-list w l d g e h m = list-some w 0 d g l e ∙ rw (lt-ltb l g h, lt-ltb g (end w l) (omega (arith, list-around w l d e .1)))
+
+module _ (w p b : List ℕ) where
   -- ---- the pending gotos
   abbrev pub waits : ℕ → ℕ → ℕ → Bool
   waits l x g = ltb l g && pending w p b 0 x g
@@ -76,7 +80,7 @@ module _ (w p b : List ℕ) where
 
   latest-none : (l : ℕ) → latestIn w p b l (suc l) ≡ none
   unfolding latestIn
-  latest-none l = none-highest (declares l) (suc l) (λ d h. not-declares l d (λ c e. omega (arith, list-before l d e .0)))
+  latest-none l = none-highest (declares l) (suc l) (λ d h. not-declares l d (λ c e. omega (arith, list-around w l d e .0)))
 
   latest-own : (l x : ℕ) → class w x ≡ declaration → listOf w 0 x ≡ some l → latestIn w p b l (suc x) ≡ some x
   unfolding latestIn
@@ -116,21 +120,16 @@ module _ (w p b : List ℕ) where
   abbrev other : ℕ → ℕ → Bool
   other x g = not (sameBytes (ident w p b g) (ident w p b x))
 
-  same-idents : (g x : ℕ) → sameNames w p b g x ≡ sameBytes (ident w p b g) (ident w p b x)
-  unfolding sameName ident
-  same-idents g x = refl
-
   waits-label : (l x g : ℕ) → isLabel w p b 0 x ≡ true → listOf w 0 x ≡ some l → g < x → waits l (suc x) g ≡ (waits l x g && other x g)
   waits-label l x g t e h = case-of (ltb l g)
       (λ u. rw u (case-of (sameBytes (ident w p b g) (ident w p b x))
       (λ v.
-      let within = list-before l x e .1 in
-      let in-list : inListOf w 0 x g ≡ true = list-some w 0 x g l e ∙ rw (u, lt-ltb g (end w l) (omega arith)) in
-      let z = parts-later w p b 0 g x h (labels-is w p b 0 g x t (same-sym w p b g x (same-idents g x ∙ v))) in-list in
+      let names = labels-is w p b 0 g x t (same-sym w p b g x (sym (same-ident w p b g x) ∙ v)) in
+      let z = parts-later w p b 0 g x h names (in-its-list w l x g e (ltb-true l g u) h) in
       rw (v, pending-found w p b x g z, and-false (pending w p b 0 x g)))
       (λ v.
       let z : isLater w p b 0 g x ≡ false = case-of (isLater w p b 0 g x)
-      (λ y. let s = same-sym w p b x g (is-labels w p b 0 g x (later-parts w p b 0 g x y .1) .1) in absurd (clash (cc (same-idents g x))))
+      (λ y. let s = same-sym w p b x g (is-labels w p b 0 g x (later-parts w p b 0 g x y .1) .1) in absurd (clash (cc (same-ident w p b g x))))
       (λ y. y) in
       rw (v, pending-same w p b x g z, and-yes (pending w p b 0 x g)))))
       (λ u. rw u)
@@ -143,7 +142,7 @@ module _ (w p b : List ℕ) where
       ∙ sym (passing-no (waits l (suc x)) x (not-waits l (suc x) x (pending-other w p b (suc x) x (λ f. clash (cc))))
       ∙ passing-same (waits l (suc x)) (λ g. waits l x g && other x g) x (λ g h. waits-label l x g t e h))
 
-module _ {w p b : List ℕ} (body : Body w p b) where
+module _ {w p b : List ℕ} where
   -- a new list: nothing waits, nothing is declared
   pub context-new : (l : ℕ) (lstmt : Option ℕ) → ContextAt w p b l (suc l) (new lstmt)
   unfolding jumpsAt
@@ -185,9 +184,9 @@ module _ {w p b : List ℕ} (body : Body w p b) where
       c
 
   -- a label of this list: the jumps of its name go
-  pub context-label : (l x : ℕ) (ctx : Context) → x < rowCount w → isLabel w p b 0 x ≡ true → listOf w 0 x ≡ some l → ContextAt w p b l x ctx
-      → ContextAt w p b l (suc x) (with-lstmt (some x) (with-jumps (filter (λ g. not (sameBytes (ident w p b g) (ident w p b x))) (ctx .fwd-jumps)) ctx))
-  context-label l x ctx row t e c =
+  pub context-label : Body w p b → (l x : ℕ) (ctx : Context) → x < rowCount w → isLabel w p b 0 x ≡ true → listOf w 0 x ≡ some l → ContextAt w p b l x ctx
+      → ContextAt w p b l (suc x) (with-lstmt (some x) (with-jumps (filter (other w p b x) (ctx .fwd-jumps)) ctx))
+  context-label body l x ctx row t e c =
       let labels = label-class body x row t in
       context-lstmt l (suc x) (with-jumps (filter (other w p b x) (ctx .fwd-jumps)) ctx) (some x)
       (context-kept w p b l x (suc x) ctx (filter (other w p b x) (ctx .fwd-jumps)) (omega arith) (latest-same w p b l x (λ d i. clash (cc)))

@@ -1,34 +1,32 @@
--- The current label, `ctx.lstmt`, and what a labelled break finds with it. At an item it adds nothing: it is the list's own statement, which the break finds one block further out,
--- or (in stock) the label of a statement already ended, which no break names here. Below labels it is the last of them that is not `_`, and that one alone is last in its run.
+-- The current label, `ctx.lstmt`, and what a labelled break finds with it. At an item it adds nothing: it is the list's own statement, which the break finds
+-- one block further out, or (in stock) the label of a statement already ended, which no break names here. Below labels it is the last of them that is not `_`,
+-- and that one alone is last in its run.
 -- Assumes nothing.
 use mathlib.Core.Path.{_≡_, refl, sym, _∙_, ap}
-use mathlib.Core.Bool.{Bool, true, false, _&&_}
+use mathlib.Core.Bool.{Bool, true, false}
 use mathlib.Core.List.{List, _∷_}
 use mathlib.Core.Option.{Option, none, some}
 use Prim.Native.Nat.{ℕ, _≤_, _<_}
 use native.Mathlib.Omega.{arith}
 use native.Mathlib.Decide.{decLt, ℕ-discrete}
-use lib.Dec.{leb}
-use borrow.Author.Tests.{le-leb, not-true}
-use Rattle.rules.specs.Scan.{lowest}
 use Rattle.rules.specs.Rows.{rowCount, end}
 use Rattle.rules.specs.Class.{labeled, class}
 use Rattle.rules.specs.Body.{Body}
 use Rattle.rules.specs.Scope.{holdsItems, around}
-use Rattle.rules.specs.Labels.{isSome, isLabel, labels, lastInRun, labelledBreak, sameNames}
-use Rattle.rules.proofs.Test.{case-of, case-found, clash, true-and}
-use Rattle.rules.proofs.Found.{is-none}
-use Rattle.rules.proofs.Scan.{lowest-none, found-highest}
+use Rattle.rules.specs.Labels.{isLabel, labels, lastInRun, labelledBreak, sameNames}
+use Rattle.rules.proofs.Test.{case-of, case-found, clash}
+use Rattle.rules.proofs.Scan.{found-highest}
 use Rattle.rules.proofs.Around.{around-true, true-around}
 use Rattle.rules.proofs.LabelRows.{labels-is, is-labels, other-label}
 use Rattle.branches.proofs.Downward.{highest-cut}
 use Rattle.branches.proofs.BlockLabels.{is-last, last-is}
 use Rattle.goscript.specs.Syntax.{ident}
 use Rattle.goscript.specs.Block.{Block, new, search, named, enclosing-target}
-use Rattle.goscript.specs.Domains.{namesEnded, noneNamesEnded}
+use Rattle.goscript.specs.Domains.{noneNamesEnded}
 use Rattle.goscript.proofs.SameNames.{same-ident}
+use Rattle.goscript.proofs.DomainRows.{ended-not-named}
 use Rattle.goscript.proofs.Walking.{targetBefore, BlocksAt, AddsNothing, Finds}
-use Rattle.goscript.proofs.Stacked.{Stacked}
+use Rattle.goscript.proofs.Stacked.{reaches, Stacked}
 
 module _ (w p b : List ℕ) where
   -- ---- the innermost block is asked first
@@ -72,45 +70,28 @@ module _ (w p b : List ℕ) where
       (λ e. top-skipped (ident w p b g) (new lstmt) blocks′ e ∙ same (ident w p b g) ∙ sym (top-skipped (ident w p b g) (new lstmt) blocks e) ∙ f g h m t)
 
   -- the label of a statement already ended, where no break names one
-  ended-not-named : (g t : ℕ) → noneNamesEnded w p b ≡ true → g < rowCount w → labelledBreak w p b 0 g ≡ true → t < g → isLabel w p b 0 t ≡ true → end w t ≤ g
-      → sameNames w p b t g ≡ false
-  unfolding noneNamesEnded namesEnded
-  ended-not-named g t d row v h u m = case-of (sameNames w p b t g)
-      (λ s.
-      let z = lowest-none (namesEnded w p b) (rowCount w) g (is-none (lowest (namesEnded w p b) (rowCount w)) (not-true (isSome (lowest (namesEnded w p b) (rowCount w))) d)) row in
-      case-found (lowest (λ t. labels w p b 0 g t && leb (end w t) g) g)
-      (λ k e. let n : false ≡ true = sym z ∙ rw (v, e, namesEnded) in absurd (clash (cc)))
-      (λ e.
-      let n = lowest-none (λ t. labels w p b 0 g t && leb (end w t) g) g t e h in
-      let y = true-and (labels w p b 0 g t) (leb (end w t) g) (labels-is w p b 0 g t u s) (le-leb (end w t) g m) in
-      absurd (clash (cc))))
-      (λ f. f)
-
   pub adds-ended : (l x t : ℕ) (blocks : List Block) → noneNamesEnded w p b ≡ true → end w l ≤ rowCount w → isLabel w p b 0 t ≡ true → t < x → end w t ≤ x
       → AddsNothing w p b l x blocks (some t)
   adds-ended l x t blocks d within u h m g i n v =
-      let f = ended-not-named g t d (omega arith) v (omega arith) u (omega arith) in
+      let f = ended-not-named w p b g t d (omega arith) v (omega arith) u (omega arith) in
       top-skipped (ident w p b g) (new (some t)) blocks (named-is t g false f)
 
   -- ---- the labels before a row, of which the innermost that passes is found
-  abbrev reaches : ℕ → ℕ → Bool
-  reaches g t = around w 0 g t && (labels w p b 0 g t && lastInRun w p b 0 t)
-
-  ended-fails : (g t : ℕ) → end w t ≤ g → reaches g t ≡ false
+  ended-fails : (g t : ℕ) → end w t ≤ g → reaches w p b g t ≡ false
   ended-fails g t h = case-of (around w 0 g t) (λ a. let m = around-true w 0 g t a .1 in absurd (omega arith)) (λ f. rw f)
 
-  other-fails : (g t : ℕ) → labels w p b 0 g t ≡ false → reaches g t ≡ false
+  other-fails : (g t : ℕ) → labels w p b 0 g t ≡ false → reaches w p b g t ≡ false
   other-fails g t f = case-of (around w 0 g t) (λ a. rw (a, f)) (λ a. rw a)
 
-  run-fails : (g t : ℕ) → lastInRun w p b 0 t ≡ false → reaches g t ≡ false
+  run-fails : (g t : ℕ) → lastInRun w p b 0 t ≡ false → reaches w p b g t ≡ false
   run-fails g t f = case-of (around w 0 g t) (λ a. rw (a, f) (case-of (labels w p b 0 g t) (λ v. rw v) (λ v. rw v))) (λ a. rw a)
 
-  no-label-fails : (g t : ℕ) → isLabel w p b 0 t ≡ false → reaches g t ≡ false
+  no-label-fails : (g t : ℕ) → isLabel w p b 0 t ≡ false → reaches w p b g t ≡ false
   no-label-fails g t f = other-fails g t (case-of (labels w p b 0 g t) (λ v. let u = is-labels w p b 0 g t v .0 in absurd (clash (cc))) (λ v. v))
 
-  before-same : (x y g : ℕ) → x ≤ y → ((t : ℕ) → x ≤ t → t < y → reaches g t ≡ false) → targetBefore w p b y g ≡ targetBefore w p b x g
+  before-same : (x y g : ℕ) → x ≤ y → ((t : ℕ) → x ≤ t → t < y → reaches w p b g t ≡ false) → targetBefore w p b y g ≡ targetBefore w p b x g
   unfolding targetBefore
-  before-same x y g h f = highest-cut (reaches g) (reaches g) x y h (λ t m. refl) f
+  before-same x y g h f = highest-cut (reaches w p b g) (reaches w p b g) x y h (λ t m. refl) f
 
 module _ {w p b : List ℕ} (body : Body w p b) {l i x : ℕ} (row : l < rowCount w) (holds : holdsItems (class w l) ≡ true) (st : Stacked w l i x)
     (blocks : List Block) (at-list : BlocksAt w p b l x blocks) where

@@ -1,6 +1,6 @@
--- From the end of the walk to the answers of goscript's `labels`: after the loop over the jumps that are left, the loop over the scope, which is in the order of the
--- names, adds a 9 for each declared label that is not used. Neither loop changes what is recorded, so that the bindings are those of the walk: a declared label's
--- own row, the label to which a branch is bound, and nothing else.
+-- From the end of the walk to the answers of goscript's `labels`: after the loop over the jumps that are left, the loop over the scope, which is in the order
+-- of the names, adds a 9 for each declared label that is not used. Neither loop changes what is recorded, so that the bindings are those of the walk: a
+-- declared label's own row, the label to which a branch is bound, and nothing else.
 -- Assumes nothing.
 use mathlib.Core.Path.{_≡_, sym, _∙_, ap}
 use mathlib.Core.Bool.{true, false, _&&_}
@@ -43,21 +43,12 @@ use Rattle.goscript.specs.Syntax.{through, contains, list}
 use Rattle.goscript.specs.Checker.{Checker, new as newChecker, error, bound}
 use Rattle.goscript.specs.Label.{Outgoing, block-branches, leftJump, unusedLabel, labels, sheet, bindings}
 use Rattle.goscript.specs.Equal.{SameLabels}
+use Rattle.goscript.proofs.Loops.{each-same, through-none, through-one, through-each}
 use Rattle.goscript.proofs.Walking.{allAt, jumpsAt, CheckerAt}
-use Rattle.goscript.proofs.ScopeRows.{each-same, ofNumber, number-none, number-before, label-at}
-use Rattle.goscript.proofs.LeftJumps.{
-  through-none,
-  through-one,
-  through-each,
-  error-none,
-  error-each,
-  use-branch,
-  use-other,
-  Left,
-  binding-end,
-  left-all,
-  left-used,
-}
+use Rattle.goscript.proofs.ScopeRows.{ofNumber, number-none, number-before, label-at}
+use Rattle.goscript.proofs.UseRows.{use-branch, use-none}
+use Rattle.goscript.proofs.CheckerRows.{error-none}
+use Rattle.goscript.proofs.LeftJumps.{error-each, Left, binding-end, left-all, left-used}
 
 -- ---- one label of the scope
 module _ (build : Build) (w p b : List ℕ) (d : ℕ) (c : Checker) where
@@ -81,10 +72,10 @@ module _ {w p b : List ℕ} (body : Body w p b) (c : Checker) (at : CheckerAt w 
       (λ t. case-of (is (declared w p b 0 r) r)
       (λ u. rw (defined, t, u, bound) (sym (binding-declared w p b 0 r t (is-found (declared w p b 0 r) r u))))
       (λ u. rw (defined, t, u, bound)
-      (at .uses-are r ∙ use-other w p b (rowCount w) r (rw (label-class body r h t)) ∙ sym (binding-repeated w p b 0 r t u))))
+      (at .uses-are r ∙ use-none w p b (rowCount w) r (rw (label-class body r h t)) ∙ sym (binding-repeated w p b 0 r t u))))
       (λ n. rw (defined, n, bound) (at .uses-are r ∙ case-of (isBranch (class w r))
       (λ t. use-branch w p b (rowCount w) r h t ∙ binding-end body r)
-      (λ t. use-other w p b (rowCount w) r t ∙ sym (binding-other w p b 0 r n
+      (λ t. use-none w p b (rowCount w) r t ∙ sym (binding-other w p b 0 r n
       (λ e. clash (cc (branch-goto (class w r) e)))
       (not-labelled w p b 0 r (λ y. clash (cc (break-branch (class w r) (y .breaks)))))))))
     where

@@ -1,22 +1,26 @@
--- The rows without rows below them, and what each leaves of the walk's state: the checker, the context and the blocks, each by its own laws.
+-- The rows that change nothing by themselves, and the rows without rows below them. The next row begins where such a row ends, so what it leaves of the walk's
+-- state is its own work: on the checker, the context and the blocks, each by its own laws.
 -- Assumes nothing.
 use mathlib.Core.Path.{_≡_, refl, sym, _∙_, ap}
-use mathlib.Core.Bool.{Bool, true, false}
+use mathlib.Core.Bool.{Bool, true, false, _||_, not}
 use mathlib.Core.List.{List, [], _∷_, _++_}
 use mathlib.Core.Option.{none, some}
 use Prim.Native.Nat.{ℕ, suc, _≤_, _<_}
 use native.Mathlib.Omega.{arith}
 use native.Mathlib.Decide.{ℕ-discrete}
+use borrow.Author.Tests.{not-true}
+use Rattle.rules.specs.Scan.{lowest}
 use Rattle.rules.specs.Rows.{rowCount, position, name, end}
 use Rattle.rules.specs.Class.{Class, plain, declaration, empty, labeled, stop, break, continue, goto, fallthrough, oneOf, isBranch, isBreakable, isLoop, class}
 use Rattle.rules.specs.Body.{Body}
 use Rattle.rules.specs.Refusals.{nothing, holding}
 use Rattle.rules.specs.Scope.{isList, listOf}
 use Rattle.rules.specs.Labels.{fault, isLabel, earlier, pending, needs, target, validTarget}
-use Rattle.rules.proofs.Test.{case-of, case-found, clash}
+use Rattle.rules.proofs.Test.{case-of, case-found, clash, or-false}
+use Rattle.rules.proofs.Every.{every}
 use Rattle.rules.proofs.RowNames.{goto-named}
 use Rattle.rules.proofs.BreakRows.{valid-found, valid-none, labelled-is}
-use Rattle.rules.proofs.ClassRules.{by-one}
+use Rattle.rules.proofs.ClassRules.{by-one, class-rule}
 use Rattle.rules.proofs.BindingRows.{branch-label}
 use Rattle.rules.proofs.LabelRows.{other-label}
 use Rattle.branches.proofs.WalkPending.{pending-other, pending-earlier}
@@ -47,6 +51,31 @@ use Rattle.goscript.proofs.Arms.{
   at-fallthrough,
 }
 
+-- neither label, branch nor declaration
+abbrev pub isOther : Class → Bool
+isOther c = not (isBranch c || oneOf (labeled ∷ declaration ∷ []) c)
+
+quiet-other : (c : Class) → isQuiet c ≡ true → isOther c ≡ true
+unfolding every lowest
+quiet-other = class-rule isQuiet isOther refl
+
+-- ---- a row that changes nothing by itself
+pub passed-row : {w p b : List ℕ} (body : Body w p b) (l x : ℕ) (s : State) → isBranch (class w x) ≡ false → isLabel w p b 0 x ≡ false
+    → (class w x ≡ declaration → ⊥) → At w p b l x s → At w p b l (suc x) s
+passed-row {w} {p} {b} body l x s f n d a = record {
+  checker = quiet-row body x (s .checker) f n (a .checker);
+  ctx = context-same l x (s .ctx) n (pending-other w p b (suc x) x (λ e. let z : false ≡ true = sym f ∙ rw e in clash (cc))) (λ e i. d e) (a .ctx);
+  blocks = blocks-same body l x (s .blocks) (λ t e. clash (cc)) (a .blocks);
+}
+
+module _ (w : List ℕ) (x : ℕ) (o : isOther (class w x) ≡ true) where
+  pub no-labeled : class w x ≡ labeled → ⊥
+  no-labeled e = let z : false ≡ true = rw e at o in clash (cc)
+
+  pub passed : {p b : List ℕ} (body : Body w p b) (l : ℕ) (s : State) → At w p b l x s → At w p b l (suc x) s
+  passed {p} {b} body l s a = passed-row body l x s (or-false (isBranch (class w x)) (oneOf (labeled ∷ declaration ∷ []) (class w x)) (not-true _ o) .0)
+      (other-label w p b 0 x no-labeled) (λ e. let z : false ≡ true = rw e at o in clash (cc)) a
+
 -- ---- what a statement leaves
 
 -- the current label after the statement x: as before or, in stock, that of a statement in x, where x is a label
@@ -72,23 +101,13 @@ module _ (build : Build) {w p b : List ℕ} (body : Body w p b) (l x : ℕ) (row
         current = kept i;
       }
 
-  -- no goto waits there, and nothing is declared
-  same-context : isLabel w p b 0 x ≡ false → pending w p b 0 (suc x) x ≡ false → (class w x ≡ declaration → ⊥) → At w p b l x s → ContextAt w p b l (suc x) (s .ctx)
-  same-context n f d a = context-same body l x (s .ctx) n f (λ e i. d e) (a .ctx)
-
   -- ---- rows that are neither labels nor branches
-  other-walked : isBranch (class w x) ≡ false → (class w x ≡ labeled → ⊥) → (class w x ≡ declaration → ⊥) → holding (class w x) ≡ nothing
-      → At w p b l x s → Walked build w p b l x s s
-  other-walked f m d h a =
-      let n = other-label w p b 0 x m in
-      leaf s h refl refl (quiet-row body x (s .checker) f n (a .checker))
-      (same-context n (pending-other w p b (suc x) x (λ e. let z : false ≡ true = sym f ∙ rw e in clash (cc))) d a) a n
-
   pub quiet-walked : (f : ℕ) → isQuiet (class w x) ≡ true → At w p b l x s → Walked build w p b l x s (stmt-branches build w p b (suc f) x s)
-  quiet-walked f t a = rw (at-quiet build w p b f x s t) (by-one _ (plain ∷ empty ∷ stop ∷ []) (class w x) t
-      (λ e. other-walked (rw e) (λ i. clash (cc)) (λ i. clash (cc)) (rw e) a)
-      (λ e. other-walked (rw e) (λ i. clash (cc)) (λ i. clash (cc)) (rw e) a)
-      (λ e. other-walked (rw e) (λ i. clash (cc)) (λ i. clash (cc)) (rw e) a))
+  quiet-walked f t a =
+      let o = quiet-other (class w x) t in
+      let z = passed w x o body l s a in
+      let h : holding (class w x) ≡ nothing = by-one _ (plain ∷ empty ∷ stop ∷ []) (class w x) t (λ e. rw e) (λ e. rw e) (λ e. rw e) in
+      rw (at-quiet build w p b f x s t) (leaf s h refl refl (z .checker) (z .ctx) a (other-label w p b 0 x (no-labeled w x o)))
 
   pub declaration-walked : (f : ℕ) → class w x ≡ declaration → listOf w 0 x ≡ some l → At w p b l x s
       → Walked build w p b l x s (stmt-branches build w p b (suc f) x s)
@@ -96,7 +115,7 @@ module _ (build : Build) {w p b : List ℕ} (body : Body w p b) (l x : ℕ) (row
       let n = other-label w p b 0 x (λ c. clash (cc)) in
       rw (at-declaration build w p b f x s e)
       (leaf (in-ctx (record-var-decl (position w x)) s) (rw e) refl refl
-      (quiet-row body x (s .checker) (rw e) n (a .checker)) (context-declares body l x (s .ctx) e i (a .ctx)) a n)
+      (quiet-row body x (s .checker) (rw e) n (a .checker)) (context-declares l x (s .ctx) e i (a .ctx)) a n)
 
   -- ---- branches
   module _ (t : isBranch (class w x) ≡ true) (h : holding (class w x) ≡ nothing) (d : class w x ≡ declaration → ⊥) (a : At w p b l x s) where
@@ -106,7 +125,7 @@ module _ (build : Build) {w p b : List ℕ} (body : Body w p b) (l x : ℕ) (row
     -- the checker alone changes, and no goto waits
     branch-walked : (s′ : State) → s′ .blocks ≡ s .blocks → s′ .ctx ≡ s .ctx → pending w p b 0 (suc x) x ≡ false → CheckerAt w p b (suc x) (s′ .checker)
         → Walked build w p b l x s s′
-    branch-walked s′ e i f c = leaf s′ h e (ap (λ (k : Context). k .lstmt) i) c (rw i (same-context no-label f d a)) a no-label
+    branch-walked s′ e i f c = leaf s′ h e (ap (λ (k : Context). k .lstmt) i) c (rw i (context-same l x (s .ctx) no-label f (λ e i. d e) (a .ctx))) a no-label
 
     -- without a label nothing does
     unlabelled-walked : (s′ : State) → (class w x ≡ goto → ⊥) → name w x ≡ 0 → Walked build w p b l x s (labelled build w p b x s′ s)
@@ -136,7 +155,7 @@ module _ (build : Build) {w p b : List ℕ} (body : Body w p b) (l x : ℕ) (row
 
       waits : earlier w p b 0 x ≡ none → Walked build w p b l x s (gotoBranch build w p b x s)
       waits i = rw (goto-pushed build w p b x s (sees ∙ i)) (leaf (in-ctx (with-jumps (s .ctx .fwd-jumps ++ x ∷ [])) s) (rw e) refl refl
-          (goto-waits body x row e (s .checker) i (a .checker)) (context-waits body l x (s .ctx) h e i (a .ctx)) a (no-label (rw e) (rw e) (λ c. clash (cc)) a))
+          (goto-waits body x row e (s .checker) i (a .checker)) (context-waits l x (s .ctx) h e i (a .ctx)) a (no-label (rw e) (rw e) (λ c. clash (cc)) a))
 
   -- a break or continue is bound where its target is of the kinds that it needs
   module _ (k : Class) (kinds : Class → Bool) (e : class w x ≡ k) (breaks : oneOf (break ∷ continue ∷ []) k ≡ true) (same : (c : Class) → needs k c ≡ kinds c)

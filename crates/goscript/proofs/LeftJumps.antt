@@ -1,22 +1,22 @@
--- The loop of `labels` over the forward jumps that are left: each is a goto that is pending at the end, and none is left out, since row 0 is a Block. Its error is
--- 7 or 8 by whether the scope has its name, and a 7 marks the label as used. So what is used then is what `rules` says: the labels to which a branch is bound,
--- which the walk marked, and those that a 7 names.
+-- The loop of `labels` over the forward jumps that are left: each is a goto that is pending at the end, and none is left out, since row 0 is a Block. Its error
+-- is 7 or 8 by whether the scope has its name, and a 7 marks the label as used. So what is used then is what `rules` says: the labels to which a branch is
+-- bound, which the walk marked, and those that a 7 names.
 -- Assumes nothing.
-use mathlib.Core.Path.{_≡_, refl, sym, _∙_, ap}
+use mathlib.Core.Path.{_≡_, sym, _∙_, ap}
 use mathlib.Core.Bool.{true, false, _&&_}
-use mathlib.Core.Logic.{_⊎_, inl, inr}
-use mathlib.Core.List.{List, [], _∷_, _++_, append-nil, append-assoc}
+use mathlib.Core.Logic.{inl, inr}
+use mathlib.Core.List.{List, [], _∷_, _++_, append-assoc}
 use mathlib.Core.Option.{none, some}
 use Prim.Native.Nat.{ℕ, zero, suc, _<_}
 use native.Mathlib.Omega.{arith}
 use native.Mathlib.Decide.{ℕ-discrete}
-use lib.Dec.{ltb, eqb}
-use borrow.Author.Tests.{lt-ltb, ltb-true, eqb-true, eq-eqb}
+use lib.Dec.{ltb}
+use borrow.Author.Tests.{lt-ltb, ltb-true}
 use Rattle.rules.specs.Rows.{rowCount, end}
 use Rattle.rules.specs.Class.{goto, isBranch, class}
 use Rattle.rules.specs.Body.{Body}
-use Rattle.rules.specs.Labels.{Fault, each, only, isClass, fault, declared, gotoLabel, pending, binding, unresolved, used}
-use Rattle.rules.proofs.Test.{case-of, case-found, clash, and-true, or-true}
+use Rattle.rules.specs.Labels.{Fault, each, isClass, fault, declared, gotoLabel, pending, binding, unresolved, used}
+use Rattle.rules.proofs.Test.{case-of, case-found, clash, and-true}
 use Rattle.rules.proofs.Each.{each-zero, each-suc}
 use Rattle.rules.proofs.Every.{is-one}
 use Rattle.rules.proofs.ClassTests.{branch-goto}
@@ -27,76 +27,27 @@ use Rattle.rules.proofs.SheetRows.{unresolved-not, unresolved-declared, unresol
 use Rattle.branches.specs.Walk.{bindingAt}
 use Rattle.branches.proofs.CanonRows.{body-end}
 use Rattle.goscript.specs.Build.{Build}
-use Rattle.goscript.specs.Syntax.{any, through, contains, ident, lookup}
+use Rattle.goscript.specs.Syntax.{through, contains, ident, lookup}
 use Rattle.goscript.specs.Checker.{Checker, error, label-set-used}
 use Rattle.goscript.specs.Label.{leftJump}
+use Rattle.goscript.proofs.Passing.{through-passing}
 use Rattle.goscript.proofs.Walking.{before, useAt, jumpsAt, CheckerAt}
 use Rattle.goscript.proofs.ScopeRows.{before-is, lookup-all}
+use Rattle.goscript.proofs.UseRows.{contains-own, contains-kept, contains-cases, use-branch}
+use Rattle.goscript.proofs.CheckerRows.{with-errors, error-none}
+use Rattle.goscript.proofs.ContextRows.{waits, not-waits}
 
--- ---- a loop over lists made number by number
-module _ {S : Type 0} (f : ℕ → S → S) where
-  through-append : (xs ys : List ℕ) (s : S) → through f (xs ++ ys) s ≡ through f ys (through f xs s)
-  unfolding through
-  through-append [] ys s = refl
-  through-append (x ∷ xs) ys s = through-append xs ys (f x s)
-
-  pub through-none : (s : S) → through f [] s ≡ s
-  unfolding through
-  through-none s = refl
-
-  pub through-one : (x : ℕ) (s : S) → through f (x ∷ []) s ≡ f x s
-  unfolding through
-  through-one x s = refl
-
-  -- what goes on from each number to the next holds after all of them
-  pub through-each : (l : ℕ → List ℕ) (P : ℕ → S → Type 0) (s : S) → P 0 s → (n : ℕ)
-      → ((k : ℕ) (t : S) → k < n → P k t → P (suc k) (through f (l k) t)) → P n (through f (each l n) s)
-  through-each l P s start zero turn = rw (each-zero l, through-none s) start
-  through-each l P s start (suc n) turn =
-      rw (each-suc l n, through-append (each l n) (l n) s)
-      (turn n (through f (each l n) s) (omega arith) (through-each l P s start n (λ k t h. turn k t (omega arith))))
-
--- ---- what a list contains
-module _ (d o : ℕ) (l : List ℕ) where
-  contains-own : d ≡ o → contains d (o ∷ l) ≡ true
-  unfolding contains any
-  contains-own e = rw (eq-eqb d o e)
-
-  contains-more : contains d l ≡ true → contains d (o ∷ l) ≡ true
-  unfolding contains any
-  contains-more t = case-of (eqb d o) (λ e. rw e) (λ e. rw e t)
-
-  is-contained : contains d (o ∷ l) ≡ true → (d ≡ o) ⊎ (contains d l ≡ true)
-  unfolding contains any
-  is-contained t = elim (or-true (eqb d o) (any (eqb d) l) t) [ inl e ↦ inl (eqb-true d o e) | inr e ↦ inr e ]
-
--- ---- one field of the checker set
-abbrev with-errors : List Fault → Checker → Checker
-with-errors errors c = record { all = c .all; used = c .used; errors = errors; defs = c .defs; uses = c .uses }
-
-abbrev pub with-used : List ℕ → Checker → Checker
+-- ---- the checker with other used labels, and with the errors of one number more
+abbrev with-used : List ℕ → Checker → Checker
 with-used used c = record { all = c .all; used = used; errors = c .errors; defs = c .defs; uses = c .uses }
 
-module _ (c : Checker) where
-  pub error-none : error [] c ≡ c
-  error-none = ap (λ (l : List Fault). with-errors l c) (append-nil (c .errors))
+pub error-each : (c : Checker) (f : ℕ → List Fault) (n : ℕ) (fs : List Fault) → f n ≡ fs → error fs (error (each f n) c) ≡ error (each f (suc n)) c
+error-each c f n fs e =
+    ap (with-errors c) (append-assoc (c .errors) (each f n) fs)
+    ∙ ap (λ (l : List Fault). error l c) (sym (each-suc f n ∙ ap (λ (l : List Fault). each f n ++ l) e))
 
-  -- the errors of one number more
-  pub error-each : (f : ℕ → List Fault) (n : ℕ) (fs : List Fault) → f n ≡ fs → error fs (error (each f n) c) ≡ error (each f (suc n)) c
-  error-each f n fs e =
-      ap (λ (l : List Fault). with-errors l c) (append-assoc (c .errors) (each f n) fs)
-      ∙ ap (λ (l : List Fault). error l c) (sym (each-suc f n ∙ ap (λ (l : List Fault). each f n ++ l) e))
-
--- ---- the label to which a branch is bound
+-- ---- a row that is bound to a label is a branch
 module _ (w p b : List ℕ) (x g : ℕ) where
-  pub use-branch : g < x → isBranch (class w g) ≡ true → useAt w p b x g ≡ bindingAt w p b x g
-  unfolding useAt
-  use-branch h t = rw (lt-ltb g x h, t, useAt)
-
-  pub use-other : isBranch (class w g) ≡ false → useAt w p b x g ≡ 0
-  unfolding useAt
-  use-other f = case-of (ltb g x) (λ t. rw (t, f, useAt)) (λ t. rw (t, useAt))
-
   use-of : (d : ℕ) → useAt w p b x g ≡ suc d → (g < x) × (isBranch (class w g) ≡ true) × (bindingAt w p b x g ≡ suc d)
   unfolding useAt
   use-of d e = case-of (ltb g x && isBranch (class w g))
@@ -121,17 +72,13 @@ module _ (w p b : List ℕ) where
     pub bound-used : (d g : ℕ) → useAt w p b (rowCount w) g ≡ suc d → contains d (c′ .used) ≡ true
     pub named-used : (d g : ℕ) → g < n → pending w p b 0 (rowCount w) g ≡ true → declared w p b 0 g ≡ some d → contains d (c′ .used) ≡ true
 
-  -- the jump of row g, where one is left
-  abbrev jump : ℕ → List ℕ
-  jump g = only (ltb 0 g && pending w p b 0 (rowCount w) g) g
-
-  jump-other : (g : ℕ) → pending w p b 0 (rowCount w) g ≡ false → jump g ≡ []
-  jump-other g f = case-of (ltb 0 g) (λ t. rw (t, f)) (λ t. rw t)
-
 module _ {w p b : List ℕ} (body : Body w p b) where
-  jump-pending : (g : ℕ) → pending w p b 0 (rowCount w) g ≡ true → jump w p b g ≡ g ∷ []
-  jump-pending zero t = absurd (clash (cc (is-pending w p b 0 (rowCount w) 0 t .gotos, body .root-class)))
-  jump-pending (suc g) t = rw (lt-ltb 0 (suc g) (omega arith), t)
+  -- every pending goto is left
+  left-pending : (g : ℕ) → waits w p b 0 (rowCount w) g ≡ pending w p b 0 (rowCount w) g
+  left-pending zero = case-of (pending w p b 0 (rowCount w) 0)
+      (λ t. absurd (clash (cc (is-pending w p b 0 (rowCount w) 0 t .gotos, body .root-class))))
+      (λ f. not-waits w p b 0 (rowCount w) 0 f ∙ sym f)
+  left-pending (suc g) = rw (lt-ltb 0 (suc g) (omega arith))
 
   pending-end : (g : ℕ) → pending w p b 0 (end w 0) g ≡ pending w p b 0 (rowCount w) g
   pending-end g = ap (λ (n : ℕ). pending w p b 0 n g) (body-end body)
@@ -182,7 +129,7 @@ module _ {w p b : List ℕ} (body : Body w p b) where
           → Left w p b c (suc n) (error (fault w 7 n ∷ []) (label-set-used d c′))
       left-marked d q e = record {
         left-is = left-more (d ∷ c′ .used) (fault w 7 n ∷ []) (unresolved-declared w p b 0 n d (pending-end n ∙ q) e);
-        used-by = λ k t. elim (is-contained k d (c′ .used) t) [
+        used-by = λ k t. elim (contains-cases k d (c′ .used) t) [
           | inl i ↦ (
             n,
             row,
@@ -190,34 +137,36 @@ module _ {w p b : List ℕ} (body : Body w p b) where
           )
           | inr u ↦ left .used-by k u
         ];
-        bound-used = λ k g u. contains-more k d (c′ .used) (left .bound-used k g u);
+        bound-used = λ k g u. contains-kept k d (c′ .used) (left .bound-used k g u);
         named-used = λ k g h r f. elim (ℕ-discrete g n) [
           | yes i ↦ let j : some k ≡ some d = sym f ∙ ap (declared w p b 0) i ∙ e in contains-own k d (c′ .used) (cc)
-          | no o ↦ contains-more k d (c′ .used) (left .named-used k g (omega arith) r f)
+          | no o ↦ contains-kept k d (c′ .used) (left .named-used k g (omega arith) r f)
         ];
       }
 
       -- its name in the scope
       looked : lookup w p b (ident w p b n) (c′ .all) ≡ before (rowCount w) (declared w p b 0 n)
-      looked = ap (λ (s : Checker). lookup w p b (ident w p b n) (s .all)) (left .left-is) ∙ rw (at .all-are) (lookup-all body (rowCount w) n row)
+      looked = ap (λ (s : Checker). lookup w p b (ident w p b n) (s .all)) (left .left-is) ∙ rw (at .all-are) (lookup-all body (rowCount w) n)
 
       looked-declared : (d : ℕ) → declared w p b 0 n ≡ some d → lookup w p b (ident w p b n) (c′ .all) ≡ some d
       looked-declared d e =
           let all-rows = body-end body in
           looked ∙ before-is (rowCount w) d (declared w p b 0 n) e (omega (arith, is-declared w p b 0 n d e .0))
 
-      left-turn : (build : Build) → Left w p b c (suc n) (through (leftJump build w p b) (jump w p b n) c′)
-      left-turn build = case-of (pending w p b 0 (rowCount w) n)
-          (λ q. rw (jump-pending n q, through-one (leftJump build w p b) n c′) (case-found (declared w p b 0 n)
+      jump-left : (build : Build) → pending w p b 0 (rowCount w) n ≡ true → Left w p b c (suc n) (leftJump build w p b n c′)
+      jump-left build q = case-found (declared w p b 0 n)
           (λ d e. rw (left-declared build w p b n c′ d (looked-declared d e)) (left-marked d q e))
           (λ e. rw (left-none build w p b n c′ (looked ∙ rw e))
-          (left-same (fault w 8 n ∷ []) (unresolved-none w p b 0 n (pending-end n ∙ q) e) (λ d r f. clash (cc))))))
-          (λ q. rw (jump-other w p b n q, through-none (leftJump build w p b) c′)
-          (rw (error-none c′) at (left-same [] (unresolved-not w p b 0 n (pending-end n ∙ q)) (λ d r f. clash (cc)))))
+          (left-same (fault w 8 n ∷ []) (unresolved-none w p b 0 n (pending-end n ∙ q) e) (λ d r f. clash (cc))))
+
+      none-left : pending w p b 0 (rowCount w) n ≡ false → Left w p b c (suc n) c′
+      none-left q = rw (error-none c′) at (left-same [] (unresolved-not w p b 0 n (pending-end n ∙ q)) (λ d r f. clash (cc)))
 
     pub left-all : (build : Build) → Left w p b c (rowCount w) (through (leftJump build w p b) (jumpsAt w p b 0 (rowCount w)) c)
     unfolding jumpsAt
-    left-all build = through-each (leftJump build w p b) (jump w p b) (Left w p b c) c left-start (rowCount w) (λ n c′ row left. left-turn n c′ row left build)
+    left-all build = through-passing (leftJump build w p b) (waits w p b 0 (rowCount w)) (Left w p b c) c left-start (rowCount w)
+        (λ n c′ row t left. jump-left n c′ row left build (sym (left-pending n) ∙ t))
+        (λ n c′ row f left. none-left n c′ row left (sym (left-pending n) ∙ f))
 
   -- ---- what is used then
   pub left-used : (c c′ : Checker) → Left w p b c (rowCount w) c′ → (d : ℕ) → contains d (c′ .used) ≡ used w p b 0 d

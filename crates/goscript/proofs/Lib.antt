@@ -1,6 +1,7 @@
 pub mod Computed
 pub mod Table
-pub mod VerdictItems
+pub mod OneBlock
+pub mod ListItems
 pub mod VerdictSteps
 pub mod VerdictSearch
 pub mod VerdictBreaks
@@ -8,9 +9,11 @@ pub mod VerdictLists
 pub mod VerdictClauses
 pub mod VerdictRules
 pub mod VerdictMended
+pub mod DomainRows
 pub mod VerdictStock
 pub mod SameNames
 pub mod Walking
+pub mod Loops
 pub mod Passing
 pub mod ScopeRows
 pub mod UseRows

@@ -1,5 +1,5 @@
 -- The numbers below n that pass a test, in order. What a filter leaves of them, and whether a number is among them, is told number by number; and where the
--- tests agree below m and no other passes there, those from m on come behind those below it.
+-- tests agree below m and no other passes there, those from m on come behind those below it. A loop over them passes by every number below n.
 -- Assumes nothing.
 use mathlib.Core.Path.{_≡_, refl, sym, _∙_}
 use mathlib.Core.Bool.{Bool, true, false, _&&_, _||_, or-false}
@@ -12,7 +12,8 @@ use borrow.Author.Tests.{lt-ltb, le-ltb, eq-eqb, ne-eqb}
 use Rattle.rules.specs.Labels.{each, only}
 use Rattle.rules.proofs.Test.{case-of}
 use Rattle.rules.proofs.Each.{none-only, none-each}
-use Rattle.goscript.specs.Syntax.{any, filter, contains}
+use Rattle.goscript.specs.Syntax.{any, filter, through, contains}
+use Rattle.goscript.proofs.Loops.{each-same, through-none, through-one, through-each}
 
 abbrev pub passing : (ℕ → Bool) → ℕ → List ℕ
 passing P n = each (λ g. only (P g) g) n
@@ -32,9 +33,7 @@ module _ (P : ℕ → Bool) (n : ℕ) where
 
 -- two tests that agree below n
 pub passing-same : (P Q : ℕ → Bool) (n : ℕ) → ((k : ℕ) → k < n → P k ≡ Q k) → passing P n ≡ passing Q n
-unfolding each
-passing-same P Q zero h = refl
-passing-same P Q (suc n) h = rw (passing-same P Q n (λ k l. h k (omega arith)), h n (omega arith))
+passing-same P Q n h = each-same (λ g. only (P g) g) (λ g. only (Q g) g) n (λ k l. rw (h k l))
 
 -- ---- is a number among them?
 any-append : (T : ℕ → Bool) (xs ys : List ℕ) → any T (xs ++ ys) ≡ (any T xs || any T ys)
@@ -85,3 +84,11 @@ module _ (P Q R : ℕ → Bool) where
         rw (passing-split m n (omega arith) a c (λ k i j. h k i (omega arith)), h n (omega arith) (omega arith))
         (append-assoc (passing Q m) (passing R n) (only (R n) n))
   ]
+
+-- ---- a loop over them: P holds before the first number, and from each to the next, whether it passes or not
+pub through-passing : {S : Type 0} (f : ℕ → S → S) (Q : ℕ → Bool) (P : ℕ → S → Type 0) (s : S) → P 0 s → (n : ℕ)
+    → ((k : ℕ) (t : S) → k < n → Q k ≡ true → P k t → P (suc k) (f k t)) → ((k : ℕ) (t : S) → k < n → Q k ≡ false → P k t → P (suc k) t)
+    → P n (through f (passing Q n) s)
+through-passing f Q P s start n passes fails = through-each f (λ g. only (Q g) g) P s start n (λ k t h r. case-of (Q k)
+    (λ u. rw (u, through-one f k t) (passes k t h u r))
+    (λ u. rw (u, through-none f t) (fails k t h u r)))

@@ -1,5 +1,5 @@
--- Where the walk stands: at an item of a list, perhaps below labels of it, or at a part of a statement. Either way a labelled break further in finds its target with the
--- current label and the blocks.
+-- Where the walk stands: at an item of a list, perhaps below labels of it, or at a part of a statement. Either way a labelled break further in finds its target
+-- with the current label and the blocks: below labels the current label is the last of them, elsewhere it adds nothing, and a part has it from its statement.
 -- Assumes nothing.
 use mathlib.Core.Path.{_≡_, refl}
 use mathlib.Core.Bool.{Bool, true, false, _&&_}
@@ -73,7 +73,7 @@ module _ {w p b : List ℕ} (body : Body w p b) {l x : ℕ} {s : State} (home : 
     its-list t = in-the-list (n .stacked) (home-list t)
 
     -- what is no statement has no label on it
-    pub clause-item : isStatement (class w x) ≡ false → i ≡ x
+    clause-item : isStatement (class w x) ≡ false → i ≡ x
     clause-item f = elim (ℕ-discrete i x) [
       | yes e ↦ e
       | no o ↦

@@ -1,11 +1,11 @@
--- What `resolve`, run through the jumps below n, leaves in the checker: each jump of the label's name is a use of the label and is reported where it jumps over a
--- declaration, in the order of the jumps. By steps from n to one more.
+-- What `resolve`, run through the jumps below n, leaves in the checker: each jump of the label's name is a use of the label and is reported where it jumps over
+-- a declaration, in the order of the jumps. By steps from n to one more.
 -- Assumes nothing.
 use mathlib.Core.Path.{_≡_, refl, sym, _∙_, ap}
 use mathlib.Core.Bool.{Bool, true, false, _&&_}
 use mathlib.Core.Logic.{_⊎_, inl, inr}
-use mathlib.Core.List.{List, [], _∷_, _++_, append-nil, append-assoc}
-use Prim.Native.Nat.{ℕ, zero, suc, _<_}
+use mathlib.Core.List.{List, [], _++_, append-nil, append-assoc}
+use Prim.Native.Nat.{ℕ, suc, _<_}
 use native.Mathlib.Omega.{arith}
 use native.Mathlib.Decide.{ℕ-discrete}
 use Rattle.rules.specs.Rows.{position, name}
@@ -18,34 +18,9 @@ use Rattle.goscript.specs.Syntax.{through, contains, ident}
 use Rattle.goscript.specs.Context.{Context, jumps-over-var-decl}
 use Rattle.goscript.specs.Checker.{Checker, error, label-set-used, record-use, usedBy}
 use Rattle.goscript.specs.Label.{resolve, varDecl}
+use Rattle.goscript.proofs.Passing.{passing, through-passing}
 use Rattle.goscript.proofs.UseRows.{used-own, used-other, contains-own, contains-kept, contains-cases}
 use Rattle.goscript.proofs.CheckerRows.{error-none}
-
--- ---- through the numbers below n that pass a test
-module _ {S : Type 0} (f : ℕ → S → S) where
-  through-append : (xs ys : List ℕ) (s : S) → through f (xs ++ ys) s ≡ through f ys (through f xs s)
-  unfolding through
-  through-append [] ys s = refl
-  through-append (x ∷ xs) ys s = through-append xs ys (f x s)
-
-  module _ (Q : ℕ → Bool) (s : S) where
-    abbrev pub throughEach : ℕ → S
-    throughEach n = through f (each (λ g. only (Q g) g) n) s
-
-    through-zero : throughEach 0 ≡ s
-    unfolding through
-    through-zero = ap (λ (l : List ℕ). through f l s) (each-zero (λ g. only (Q g) g))
-
-    through-suc : (n : ℕ) → throughEach (suc n) ≡ through f (only (Q n) n) (throughEach n)
-    through-suc n = ap (λ (l : List ℕ). through f l s) (each-suc (λ g. only (Q g) g) n) ∙ through-append (each (λ g. only (Q g) g) n) (only (Q n) n) s
-
-    through-yes : (n : ℕ) → Q n ≡ true → throughEach (suc n) ≡ f n (throughEach n)
-    unfolding through
-    through-yes n t = through-suc n ∙ ap (λ (u : Bool). through f (only u n) (throughEach n)) t
-
-    through-no : (n : ℕ) → Q n ≡ false → throughEach (suc n) ≡ throughEach n
-    unfolding through
-    through-no n t = through-suc n ∙ ap (λ (u : Bool). through f (only u n) (throughEach n)) t
 
 -- 3: the jump g jumps over the declaration at this position
 abbrev pub overFault : List ℕ → ℕ → ℕ → Fault
@@ -166,13 +141,9 @@ module _ (build : Build) (w p b : List ℕ) (s : ℕ) (ctx : Context) where
       ];
     }
 
-    resolve-step : (n : ℕ) (e : Checker) → Q n ≡ true → Resolved n e → Resolved (suc n) (resolve build w p b s ctx n e)
-    resolve-step n e t r = case-of (sameAs w p b s n)
-        (λ u. rw (resolve-is n e u) (taken-step n e (rw (t, u)) r))
-        (λ u. rw (resolve-not n e u) (other-step n e (rw (t, u)) r))
-
-    pub resolved : (n : ℕ) → Resolved n (throughEach (resolve build w p b s ctx) Q c n)
-    resolved zero = rw (through-zero (resolve build w p b s ctx) Q c) start
-    resolved (suc n) = case-of (Q n)
-        (λ t. rw (through-yes (resolve build w p b s ctx) Q c n t) (resolve-step n (throughEach (resolve build w p b s ctx) Q c n) t (resolved n)))
-        (λ f. rw (through-no (resolve build w p b s ctx) Q c n f) (other-step n (throughEach (resolve build w p b s ctx) Q c n) (rw f) (resolved n)))
+    pub resolved : (n : ℕ) → Resolved n (through (resolve build w p b s ctx) (passing Q n) c)
+    resolved n = through-passing (resolve build w p b s ctx) Q Resolved c start n
+        (λ k e h t r. case-of (sameAs w p b s k)
+        (λ u. rw (resolve-is k e u) (taken-step k e (rw (t, u)) r))
+        (λ u. rw (resolve-not k e u) (other-step k e (rw (t, u)) r)))
+        (λ k e h f r. other-step k e (rw f) r)

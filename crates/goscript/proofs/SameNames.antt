@@ -1,4 +1,5 @@
--- Rows that carry the same name have the same declared label; and identifiers are compared as `rules` compares names.
+-- Rows that carry the same name have the same declared label, since the same labels have it, and the first of them is the declared one. Identifiers
+-- are compared as `rules` compares names: by their bytes.
 -- Assumes nothing.
 use mathlib.Core.Path.{_≡_, refl, sym, _∙_}
 use mathlib.Core.Bool.{true}
@@ -18,7 +19,7 @@ module _ (w p b : List ℕ) where
   unfolding ident sameName
   same-ident r s = refl
 
-  pub labels-same : (g h r : ℕ) → sameNames w p b g h ≡ true → labels w p b 0 g r ≡ labels w p b 0 h r
+  labels-same : (g h r : ℕ) → sameNames w p b g h ≡ true → labels w p b 0 g r ≡ labels w p b 0 h r
   unfolding labels sameName
   labels-same g h r t = rw (same-bytes p b (name w g) (name w h) t, labels, sameName)
 

@@ -1,6 +1,6 @@
--- The scope of all labels when the walk stands at row x: the declared labels before x, one for each canonical number, so in the order of their names. A row that is no
--- declared label adds none; a declared label comes between the smaller and the larger numbers, which is where `place` puts it. A label of the scope with the
--- name of a row is the declared one of that name, since it is the first of its own name.
+-- The scope of all labels when the walk stands at row x: the declared labels before x, one for each canonical number, so in the order of their names. A row
+-- that is no declared label adds none; a declared label comes between the smaller and the larger numbers, which is where `place` puts it. A label of the scope
+-- with the name of a row is the declared one of that name, since it is the first of its own name.
 -- Assumes nothing.
 use mathlib.Core.Path.{_≡_, refl, sym, _∙_, ap}
 use mathlib.Core.Bool.{true, false}
@@ -12,33 +12,28 @@ use native.Mathlib.Decide.{ℕ-discrete, decLt}
 use lib.Dec.{ltb}
 use borrow.Author.Tests.{lt-ltb, le-ltb}
 use Rattle.rules.specs.Rows.{rowCount, name}
-use Rattle.rules.specs.Names.{pairCount, sameBytes, bytesBefore, sameName, rank}
+use Rattle.rules.specs.Names.{pairCount, sameBytes, bytesBefore, rank}
 use Rattle.rules.specs.Body.{Body}
-use Rattle.rules.specs.Labels.{each, only, sameNames, isLabel, labels, declared, declaredAt}
+use Rattle.rules.specs.Labels.{each, only, isLabel, declared, declaredAt}
 use Rattle.rules.proofs.Test.{case-of, case-found, clash}
 use Rattle.rules.proofs.Each.{each-zero, each-suc, none-each}
 use Rattle.rules.proofs.Order.{before-not-after, rank-before}
-use Rattle.rules.proofs.RowNames.{same-sym, same-trans}
-use Rattle.rules.proofs.LabelRows.{labels-is, is-labels, is-declared, declared-first, declared-is}
+use Rattle.rules.proofs.LabelRows.{is-labels, is-declared}
 use Rattle.rules.proofs.SheetRows.{is-ranked, is-declared-at}
 use Rattle.tables.specs.Canon.{rowCanon}
 use Rattle.branches.proofs.CanonRows.{numbered, body-end, row-canon-within, label-numbered, declared-canon}
 use Rattle.goscript.specs.Syntax.{ident, lookup}
-use Rattle.goscript.specs.Checker.{place}
-use Rattle.goscript.proofs.Walking.{before, allAt}
-
--- two lists made number by number
-pub each-same : {A : Type 0} (f g : ℕ → List A) (n : ℕ) → ((k : ℕ) → k < n → f k ≡ g k) → each f n ≡ each g n
-unfolding each
-each-same f g zero e = refl
-each-same f g (suc n) e = rw (each-same f g n (λ k h. e k (omega arith)), e n (omega arith))
+use Rattle.goscript.specs.Checker.{Checker, place}
+use Rattle.goscript.proofs.SameNames.{same-ident, declared-same, declared-own}
+use Rattle.goscript.proofs.Loops.{each-same}
+use Rattle.goscript.proofs.Walking.{before, allAt, CheckerAt}
 
 -- a row that stands before row x, and one that does not
 module _ (x d : ℕ) (o : Option ℕ) (e : o ≡ some d) where
   pub before-is : d < x → before x o ≡ some d
   before-is h = rw (e, lt-ltb d x h, before)
 
-  pub before-not : x ≤ d → before x o ≡ none
+  before-not : x ≤ d → before x o ≡ none
   before-not h = rw (e, le-ltb d x h, before)
 
 -- ---- a label put into its place
@@ -80,7 +75,7 @@ module _ (w p b : List ℕ) (o : ℕ) where
 
 -- ---- the first label of a name
 module _ (w p b bytes : List ℕ) where
-  lookup-append : (xs ys : List ℕ) → lookup w p b bytes (xs ++ ys) ≡ elim (lookup w p b bytes xs) [ some d ↦ some d | none ↦ lookup w p b bytes ys ]
+  pub lookup-append : (xs ys : List ℕ) → lookup w p b bytes (xs ++ ys) ≡ elim (lookup w p b bytes xs) [ some d ↦ some d | none ↦ lookup w p b bytes ys ]
   unfolding lookup
   lookup-append [] ys = refl
   lookup-append (x ∷ xs) ys = case-of (sameBytes (ident w p b x) bytes) (λ t. rw (t, lookup)) (λ t. rw (t, lookup) (lookup-append xs ys))
@@ -115,25 +110,8 @@ module _ (w p b bytes : List ℕ) where
       (λ t. let z : some d ≡ some e = rw (t, lookup) at q in (cc, t))
       (λ t. let z : none ≡ some e = rw (t, lookup) at q in absurd (clash (cc)))
 
--- ---- the declared label of a name
+-- ---- the label of a canonical number, where it stands before row x
 module _ (w p b : List ℕ) where
-  ident-same : (r g : ℕ) → sameBytes (ident w p b r) (ident w p b g) ≡ sameNames w p b r g
-  unfolding ident sameName
-  ident-same r g = refl
-
-  -- rows with the same name have the same declared label
-  declared-named : (g h d : ℕ) → sameNames w p b g h ≡ true → declared w p b 0 g ≡ some d → declared w p b 0 h ≡ some d
-  declared-named g h d t e =
-      let i = is-declared w p b 0 g d e in
-      declared-is w p b 0 h d (i .0) (as-labels g h t d (i .1))
-      (λ r l. case-of (labels w p b 0 h r)
-      (λ u. absurd (clash (cc (declared-first w p b 0 g d r e l, as-labels h g (same-sym w p b g h t) r u))))
-      (λ f. f))
-    where
-      as-labels : (g h : ℕ) → sameNames w p b g h ≡ true → (r : ℕ) → labels w p b 0 g r ≡ true → labels w p b 0 h r ≡ true
-      as-labels g h t r u = let x = is-labels w p b 0 g r u in labels-is w p b 0 h r (x .0) (same-trans w p b r g h (x .1) t)
-
-  -- ---- the label of a canonical number, where it stands before row x
   abbrev pub ofNumber : ℕ → ℕ → List ℕ
   ofNumber x i = elim (declaredAt w p b 0 (suc i)) [ none ↦ [] | some d ↦ only (ltb d x) d ]
 
@@ -221,7 +199,7 @@ module _ {w p b : List ℕ} (body : Body w p b) where
       (λ e. let z : none ≡ some d = rw e at q in absurd (clash (cc)))
       (λ k e l f.
       let (j, t) = one-lookup w p b (ident w p b g) k d (rw f at q) in
-      let own : declared w p b 0 g ≡ some k = declared-named w p b k g k (rw (ident-same w p b k g) at t) (label-at (suc i) k e .2) in
+      let own : declared w p b 0 g ≡ some k = sym (declared-same w p b k g (sym (same-ident w p b k g) ∙ t)) ∙ label-at (suc i) k e .2 in
       (own ∙ ap some j, omega arith))
 
   found-number : (x g d : ℕ) → declared w p b 0 g ≡ some d → d < x → (i : ℕ) × (i < pairCount p) × (lookup w p b (ident w p b g) (ofNumber w p b x i) ≡ some d)
@@ -229,12 +207,12 @@ module _ {w p b : List ℕ} (body : Body w p b) where
       let all-rows = body-end body in
       let i = is-declared w p b 0 g d e in
       let (t, s) = is-labels w p b 0 g d (i .1) in
-      let (k, h, at) = has-number d (omega (arith, i .0)) t (declared-named w p b g d d (same-sym w p b d g s) e) in
-      (k, h, rw (number-before w p b x k d at l) (lookup-one w p b (ident w p b g) d (rw (ident-same w p b d g) s)))
+      let (k, h, at) = has-number d (omega (arith, i .0)) t (declared-own w p b g d e) in
+      (k, h, rw (number-before w p b x k d at l) (lookup-one w p b (ident w p b g) d (same-ident w p b d g ∙ s)))
 
-  pub lookup-all : (x g : ℕ) → g < rowCount w → lookup w p b (ident w p b g) (allAt w p b x) ≡ before x (declared w p b 0 g)
+  pub lookup-all : (x g : ℕ) → lookup w p b (ident w p b g) (allAt w p b x) ≡ before x (declared w p b 0 g)
   unfolding allAt
-  lookup-all x g row = case-found (lookup w p b (ident w p b g) (each (ofNumber w p b x) (pairCount p)))
+  lookup-all x g = case-found (lookup w p b (ident w p b g) (each (ofNumber w p b x) (pairCount p)))
       (λ d e.
       let (i, h, q) = lookup-in w p b (ident w p b g) (ofNumber w p b x) (pairCount p) d e in
       let (f, l) = number-found x g i d q in
@@ -247,3 +225,11 @@ module _ {w p b : List ℕ} (body : Body w p b) where
         | no n ↦ e ∙ sym (before-not x d (declared w p b 0 g) f (omega arith))
       ])
       (λ f. e ∙ rw f))
+
+  -- in the checker at row x: the declared label of the name of g where it stands before x, and none yet where it doesn't
+  module _ (x g d : ℕ) (c : Checker) (at : CheckerAt w p b x c) (e : declared w p b 0 g ≡ some d) where
+    pub found-before : d < x → lookup w p b (ident w p b g) (c .all) ≡ some d
+    found-before h = rw (at .all-are) (lookup-all x g ∙ before-is x d (declared w p b 0 g) e h)
+
+    pub none-yet : x ≤ d → lookup w p b (ident w p b g) (c .all) ≡ none
+    none-yet h = rw (at .all-are) (lookup-all x g ∙ before-not x d (declared w p b 0 g) e h)

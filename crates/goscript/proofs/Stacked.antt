@@ -1,5 +1,5 @@
--- A statement below the labels of its item: the labels from row i on stand directly on the statement x, and what stands before i in the list l has ended. So the rows around x
--- inside the list are these labels, x is in the list l, and the target of a branch x is what `targetBefore` finds before the list's row.
+-- A statement below the labels of its item: the labels from row i on stand directly on the statement x, and what stands before i in the list l has ended. So
+-- the rows around x inside the list are these labels, x is in the list l, and the target of a branch x is what `targetBefore` finds before the list's row.
 -- Assumes nothing.
 use mathlib.Core.Path.{_≡_, refl, sym, _∙_, ap}
 use mathlib.Core.Bool.{Bool, true, false, _&&_, not}
@@ -51,7 +51,7 @@ below-label {w} {l} {i} {x} st c (h, e) m = record {
 
 -- ---- the rows around x
 module _ {w : List ℕ} {l i x : ℕ} (st : Stacked w l i x) where
-  pub around-labeled : (q : ℕ) → l < q → q < x → x < end w q → class w q ≡ labeled
+  around-labeled : (q : ℕ) → l < q → q < x → x < end w q → class w q ≡ labeled
   around-labeled q h a m = elim (decLt q i) [
     | yes n ↦ absurd (omega (arith, st .ended q h n, st .upto))
     | no n ↦ st .labels-on q (omega arith) a
@@ -85,6 +85,10 @@ and-none true true true d e = e
 and-none true true false d e = refl
 and-none true false c d e = refl
 and-none false b c d e = refl
+
+-- the statement of the label t is around g, of its name, and t is last in its run: what `targetBefore` asks
+abbrev pub reaches : List ℕ → List ℕ → List ℕ → ℕ → ℕ → Bool
+reaches w p b g t = around w 0 g t && (labels w p b 0 g t && lastInRun w p b 0 t)
 
 -- the innermost Block around g: the list's own row, or the Block whose clause that is; no label stands between
 record Home (w p b : List ℕ) (l g k : ℕ) : Type 0 where
@@ -146,15 +150,12 @@ module _ {w p b : List ℕ} (body : Body w p b) {l i g : ℕ} (row : l < rowCoun
   unfolding target targetBefore
   target-is =
       let (k, x) = home in
-      highest-cut wanted reaching l g (omega (arith, st .after, st .upto)) (inner k x) (outside k x)
+      highest-cut wanted (reaches w p b g) l g (omega (arith, st .after, st .upto)) (inner k x) (outside k x)
     where
       wanted : ℕ → Bool
       wanted t = around w 0 g t && (labels w p b 0 g t && (lastInRun w p b 0 t && inBlockOf w p b 0 t g))
 
-      reaching : ℕ → Bool
-      reaching t = around w 0 g t && (labels w p b 0 g t && lastInRun w p b 0 t)
-
-      inner : (k : ℕ) → Home w p b l g k → (t : ℕ) → t < l → wanted t ≡ reaching t
+      inner : (k : ℕ) → Home w p b l g k → (t : ℕ) → t < l → wanted t ≡ reaches w p b g t
       inner k x t h = case-of (around w 0 g t && labels w p b 0 g t)
           (λ v.
           let a = and-true (around w 0 g t) (labels w p b 0 g t) v in

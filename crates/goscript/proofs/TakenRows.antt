@@ -1,5 +1,6 @@
--- The gotos that the label x, not `_`, of the list l resolves: the jumps of the list that have its name. They stand before it in its list and are pending, so x is the later
--- label of each, and of no other goto that is pending. So each is bound to it, the others stay as they are, and those before the latest declaration of the list are reported.
+-- The gotos that the label x, not `_`, of the list l resolves: the jumps of the list that have its name. They stand before it in its list and are pending, so x
+-- is the later label of each, and of no other goto that is pending. So each is bound to it, the others stay as they are, and those before the latest
+-- declaration of the list are reported.
 -- Assumes nothing.
 use mathlib.Core.Path.{_≡_, sym, _∙_, ap}
 use mathlib.Core.Bool.{Bool, true, false, _&&_}
@@ -8,33 +9,31 @@ use mathlib.Core.List.{List, []}
 use mathlib.Core.Option.{none, some}
 use Prim.Native.Nat.{ℕ, suc, _<_}
 use native.Mathlib.Omega.{arith}
-use native.Mathlib.Decide.{ℕ-discrete, decLt}
 use lib.Dec.{ltb, leb}
 use borrow.Author.Tests.{ltb-true, lt-ltb, le-leb}
-use Rattle.rules.specs.Rows.{rowCount, position, name, end}
+use Rattle.rules.specs.Rows.{rowCount, position}
 use Rattle.rules.specs.Class.{declaration, goto, isBranch, class}
-use Rattle.rules.specs.Scope.{isList, listOf, inListOf}
+use Rattle.rules.specs.Scope.{listOf, inListOf}
 use Rattle.rules.specs.Body.{Body}
 use Rattle.rules.specs.Labels.{Fault, only, is, isClass, word, isLabel, labels, latestDeclaration, pending, jumpsOver}
 use Rattle.rules.proofs.Test.{case-of, case-found, clash, and-true}
 use Rattle.rules.proofs.Each.{none-only}
-use Rattle.rules.proofs.Order.{same-equal, equal-same}
 use Rattle.rules.proofs.ClassTests.{branch-goto, one-is}
 use Rattle.rules.proofs.Every.{is-one}
-use Rattle.rules.proofs.Around.{innermost-found}
-use Rattle.rules.proofs.RowNames.{same-bytes, bytes-same}
+use Rattle.rules.proofs.RowNames.{same-sym}
 use Rattle.rules.proofs.LabelRows.{labels-is, is-labels}
-use Rattle.rules.proofs.GotoRows.{list-some, in-list, isLater, later-parts, parts-later, is-pending, resolved}
+use Rattle.rules.proofs.GotoRows.{in-list, isLater, later-parts, parts-later, is-pending, resolved}
 use Rattle.rules.proofs.SheetRows.{isOver, is-over, jumps-none, jumps-some}
 use Rattle.branches.specs.Walk.{bindingAt, latestIn}
 use Rattle.branches.proofs.CanonRows.{label-class}
 use Rattle.branches.proofs.WalkPending.{highest-same}
 use Rattle.branches.proofs.WalkBindings.{at-goto, at-later, at-other, later-found, later-kept, binding-same}
-use Rattle.goscript.specs.Syntax.{ident}
 use Rattle.goscript.specs.Context.{Context}
 use Rattle.goscript.specs.Label.{varDecl}
+use Rattle.goscript.proofs.SameNames.{same-ident}
 use Rattle.goscript.proofs.Walking.{useAt, ContextAt, stands-before}
-use Rattle.goscript.proofs.UseRows.{use-branch, use-from, use-kept, use-own}
+use Rattle.goscript.proofs.UseRows.{use-branch, use-same}
+use Rattle.goscript.proofs.ContextRows.{in-its-list, waits, declares}
 use Rattle.goscript.proofs.ResolveRows.{sameAs, overFault, overReport}
 
 -- the latest declaration of the list of x
@@ -42,28 +41,18 @@ latest-in-list : (w p b : List ℕ) (l x : ℕ) → listOf w 0 x ≡ some l → 
 unfolding latestDeclaration latestIn
 latest-in-list w p b l x e = highest-same
     (λ d. leb 0 d && (isClass w declaration d && elim (listOf w 0 x) [ none ↦ false | some k ↦ is (listOf w 0 d) k ]))
-    (λ d. isClass w declaration d && is (listOf w 0 d) l) x (λ d h. rw (e, le-leb 0 d (omega arith)))
+    (declares w p b l) x (λ d h. rw (e, le-leb 0 d (omega arith)))
 
--- the goto g, after the row of the list l, is pending at x
-abbrev pub waitsIn : List ℕ → List ℕ → List ℕ → ℕ → ℕ → ℕ → Bool
-waitsIn w p b l x g = ltb l g && pending w p b 0 x g
-
--- and has the name of the label x
+-- the goto g of the list l waits at x and has the name of the label x
 abbrev pub takes : List ℕ → List ℕ → List ℕ → ℕ → ℕ → ℕ → Bool
-takes w p b l x g = waitsIn w p b l x g && sameAs w p b x g
+takes w p b l x g = waits w p b l x g && sameAs w p b x g
 
 module _ {w p b : List ℕ} (body : Body w p b) (l x : ℕ) (row : x < rowCount w) (label : isLabel w p b 0 x ≡ true) (listed : listOf w 0 x ≡ some l) where
-  reaches : x < end w l
-  unfolding listOf
-  reaches = innermost-found w 0 isList x l listed .reaches
-
   names : (g : ℕ) → sameAs w p b x g ≡ true → labels w p b 0 g x ≡ true
-  unfolding ident
-  names g t = labels-is w p b 0 g x label (bytes-same p b (name w x) (name w g) (sym (same-equal (ident w p b g) (ident w p b x) t)))
+  names g t = labels-is w p b 0 g x label (same-sym w p b g x (sym (same-ident w p b g x) ∙ t))
 
   named : (g : ℕ) → labels w p b 0 g x ≡ true → sameAs w p b x g ≡ true
-  unfolding ident
-  named g t = equal-same (ident w p b g) (ident w p b x) (sym (same-bytes p b (name w x) (name w g) (is-labels w p b 0 g x t .1)))
+  named g t = same-ident w p b g x ∙ same-sym w p b x g (is-labels w p b 0 g x t .1)
 
   record Taken (g : ℕ) : Type 0 where
     after : l < g
@@ -72,7 +61,7 @@ module _ {w p b : List ℕ} (body : Body w p b) (l x : ℕ) (row : x < rowCount 
 
   is-taken : (g : ℕ) → takes w p b l x g ≡ true → Taken g
   is-taken g t =
-      let a = and-true (waitsIn w p b l x g) (sameAs w p b x g) t in
+      let a = and-true (waits w p b l x g) (sameAs w p b x g) t in
       let c = and-true (ltb l g) (pending w p b 0 x g) (a .0) in
       record { after = ltb-true l g (c .0); waits = c .1; same-name = names g (a .1) }
 
@@ -81,9 +70,6 @@ module _ {w p b : List ℕ} (body : Body w p b) (l x : ℕ) (row : x < rowCount 
 
   -- ---- x is the later label of g
   module _ (g : ℕ) (h : g < x) where
-    in-its-list : l < g → inListOf w 0 x g ≡ true
-    in-its-list k = list-some w 0 x g l listed ∙ rw (lt-ltb l g k, lt-ltb g (end w l) (omega (arith, reaches)))
-
     from-its-list : inListOf w 0 x g ≡ true → l < g
     from-its-list t =
         let (k, f, m, n) = in-list w 0 x g t in
@@ -91,7 +77,7 @@ module _ {w p b : List ℕ} (body : Body w p b) (l x : ℕ) (row : x < rowCount 
         omega arith
 
     taken-later : Taken g → isLater w p b 0 g x ≡ true
-    taken-later t = parts-later w p b 0 g x h (t .same-name) (in-its-list (t .after))
+    taken-later t = parts-later w p b 0 g x h (t .same-name) (in-its-list w l x g listed (t .after) h)
 
     later-taken : isLater w p b 0 g x ≡ true → pending w p b 0 x g ≡ true → Taken g
     later-taken t q =
@@ -143,7 +129,7 @@ module _ {w p b : List ℕ} (body : Body w p b) (l x : ℕ) (row : x < rowCount 
         let over : ℕ → Fault = overFault w g in
         case-found (latestIn w p b l x)
         (λ d f.
-        let i : isOver w p b 0 x g d ≡ ltb g d = rw (k .waits, k .same-name, in-its-list (k .after)) in
+        let i : isOver w p b 0 x g d ≡ ltb g d = rw (k .waits, k .same-name, in-its-list w l x g listed (k .after) h) in
         ap (λ (u : Bool). only u (over (varDecl (ctx .var-decl-pos)))) (e ∙ ap (stands-before w p b g) f)
         ∙ ap (λ (o : ℕ). only (ltb g d) (over o)) (at .position-is d f)
         ∙ sym (jumps-some w p b 0 x g d (latest-in-list w p b l x listed ∙ f) ∙ rw i))
@@ -161,10 +147,6 @@ module _ {w p b : List ℕ} (body : Body w p b) (l x : ℕ) (row : x < rowCount 
         (λ e. jumps-none w p b 0 x g e)
 
   pub use-other : (g : ℕ) → (g < x → takes w p b l x g ≡ false) → useAt w p b (suc x) g ≡ useAt w p b x g
-  use-other g h = elim (decLt g x) [
-    | yes m ↦ use-kept w p b x g (λ e. omega arith) (bound-kept g m (h m))
-    | no n ↦ elim (ℕ-discrete g x) [
-      | yes e ↦ rw e (use-own w p b x (λ t. let z : false ≡ true = rw (label-class body x row label) at t in absurd (clash (cc))))
-      | no o ↦ use-from w p b (suc x) g (omega arith) ∙ sym (use-from w p b x g (omega arith))
-    ]
-  ]
+  use-other g h = use-same w p b x g
+      (λ t. let z : false ≡ true = rw (label-class body x row label) at t in absurd (clash (cc)))
+      (λ m. bound-kept g m (h m))

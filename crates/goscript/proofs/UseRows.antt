@@ -7,7 +7,7 @@ use mathlib.Core.Logic.{_⊎_, inl, inr}
 use mathlib.Core.List.{List, _∷_}
 use Prim.Native.Nat.{ℕ, suc, _≤_, _<_}
 use native.Mathlib.Omega.{arith}
-use native.Mathlib.Decide.{decLt}
+use native.Mathlib.Decide.{decLt, ℕ-discrete}
 use lib.Dec.{ltb, eqb}
 use borrow.Author.Tests.{lt-ltb, le-ltb, eqb-true, eq-eqb, ne-eqb}
 use Rattle.rules.specs.Class.{isBranch, class}
@@ -57,22 +57,27 @@ module _ (w p b : List ℕ) where
   unfolding useAt
   use-from x g h = rw (le-ltb g x h, useAt)
 
-  use-none : (x g : ℕ) → isBranch (class w g) ≡ false → useAt w p b x g ≡ 0
+  pub use-none : (x g : ℕ) → isBranch (class w g) ≡ false → useAt w p b x g ≡ 0
   unfolding useAt
   use-none x g f = case-of (ltb g x) (λ t. rw (t, f, useAt)) (λ t. rw (t, useAt))
 
-  -- a row before x whose binding stays
-  pub use-kept : (x g : ℕ) → (g ≡ x → ⊥) → bindingAt w p b (suc x) g ≡ bindingAt w p b x g → useAt w p b (suc x) g ≡ useAt w p b x g
-  use-kept x g n e = case-of (isBranch (class w g))
-      (λ t. elim (decLt g x) [
-        | yes l ↦ use-branch (suc x) g (omega arith) t ∙ e ∙ sym (use-branch x g l t)
-        | no m ↦ use-from (suc x) g (omega arith) ∙ sym (use-from x g (omega arith))
-      ])
-      (λ f. use-none (suc x) g f ∙ sym (use-none x g f))
+  -- another row than x, whose binding stays where it stands before x
+  pub use-kept : (x g : ℕ) → (g ≡ x → ⊥) → (g < x → bindingAt w p b (suc x) g ≡ bindingAt w p b x g) → useAt w p b (suc x) g ≡ useAt w p b x g
+  use-kept x g n e = elim (decLt g x) [
+    | yes l ↦ case-of (isBranch (class w g))
+        (λ t. use-branch (suc x) g (omega arith) t ∙ e l ∙ sym (use-branch x g l t))
+        (λ f. use-none (suc x) g f ∙ sym (use-none x g f))
+    | no m ↦ use-from (suc x) g (omega arith) ∙ sym (use-from x g (omega arith))
+  ]
 
   -- the row x itself, where it is bound to nothing
-  pub use-own : (x : ℕ) → (isBranch (class w x) ≡ true → bindingAt w p b (suc x) x ≡ 0) → useAt w p b (suc x) x ≡ useAt w p b x x
+  use-own : (x : ℕ) → (isBranch (class w x) ≡ true → bindingAt w p b (suc x) x ≡ 0) → useAt w p b (suc x) x ≡ useAt w p b x x
   use-own x h = case-of (isBranch (class w x))
       (λ t. use-branch (suc x) x (omega arith) t ∙ h t)
       (λ f. use-none (suc x) x f)
       ∙ sym (use-from x x (omega arith))
+
+  -- so every row
+  pub use-same : (x g : ℕ) → (isBranch (class w x) ≡ true → bindingAt w p b (suc x) x ≡ 0)
+      → (g < x → bindingAt w p b (suc x) g ≡ bindingAt w p b x g) → useAt w p b (suc x) g ≡ useAt w p b x g
+  use-same x g h e = elim (ℕ-discrete g x) [ yes i ↦ rw i (use-own x h) | no n ↦ use-kept x g n e ]

@@ -11,7 +11,7 @@ use native.Mathlib.Omega.{arith}
 use native.Mathlib.Decide.{ℕ-discrete}
 use borrow.Author.Tests.{not-true}
 use Rattle.rules.specs.Scan.{lowest}
-use Rattle.rules.specs.Rows.{rowCount, name, size, end, Item, here, later, Child}
+use Rattle.rules.specs.Rows.{rowCount, name, size, end, here, later}
 use Rattle.rules.specs.Class.{
   plain,
   declaration,
@@ -47,7 +47,8 @@ use Rattle.returns.proofs.Referring.{has-break-below}
 use Rattle.goscript.specs.Build.{Build}
 use Rattle.goscript.specs.Syntax.{any, list, ident}
 use Rattle.goscript.specs.Returns.{is, isSome, has-break, has-break-list}
-use Rattle.goscript.proofs.VerdictItems.{of-list}
+use Rattle.goscript.proofs.OneBlock.{hasBlock, block-below}
+use Rattle.goscript.proofs.ListItems.{of-list}
 use Rattle.goscript.proofs.VerdictSteps.{
   isBreakless,
   any-none,
@@ -62,7 +63,7 @@ use Rattle.goscript.proofs.VerdictSteps.{
   search-breakable,
   list-search,
 }
-use Rattle.goscript.proofs.VerdictSearch.{labelOf, named-label, Handed, hasBlock, hidesNone, by-search, block-below}
+use Rattle.goscript.proofs.VerdictSearch.{labelOf, named-label, Handed, hidesNone, by-search}
 
 module _ {build : Build} {w p b : List ℕ} (body : Body w p b) (s : ℕ) (row : s < rowCount w) (handed : Handed build w p b s) where
   -- ---- the label on s, what the search for it finds, and what it is to find
@@ -105,17 +106,16 @@ module _ {build : Build} {w p b : List ℕ} (body : Body w p b) (s : ℕ) (row :
         let (h, k) = inside q l m in
         list-search build w p b f (list w q) label implicit
         ∙ of-list body q h
-        (λ c rows. ((r : ℕ) → Item w (end w q) c r → Child w q r) → any (λ r. found f r implicit) rows ≡ leave c (end w q) implicit)
-        (λ c e i. any-none (λ r. found f r implicit) ∙ sym (leaving.any-none w p b c (end w q) number implicit e))
-        (λ c rows a e rest i.
-        let z = item-from (i c (here e)) in
+        (λ c rows. any (λ r. found f r implicit) rows ≡ leave c (end w q) implicit)
+        (any-none (λ r. found f r implicit) ∙ sym (leaving.any-none w p b (end w q) (end w q) number implicit (omega arith)))
+        (λ c rows a e i rest.
+        let z = item-from i in
         let j = closed-rest body a e .order in
         let item = closed-item body c (omega arith) in
-        let n = only-opened (class w q) (class w c) o (body .child-fits q c h (i c (here e))) in
+        let n = only-opened (class w q) (class w c) o (body .child-fits q c h i) in
         any-more (λ r. found f r implicit) c rows
-        ∙ rw (searched c implicit (omega arith) (omega arith) n (omega arith), rest (λ r d. i r (later e d)))
+        ∙ rw (searched c implicit (omega arith) (omega arith) n (omega arith), rest)
         (sym (any-apart w p b c (end w c) (end w q) number implicit (item .order) j (item .ends))))
-        (λ r d. d)
 
     -- of the Block that is its one child
     block-found : (r : ℕ) → s ≤ r → r < end w s → hasBlock (class w r) ≡ true → 2 * size w r ≤ suc (suc (suc f))

@@ -9,7 +9,7 @@ use Prim.Native.Nat.{ℕ, suc, _*_, _<_}
 use native.Mathlib.Omega.{arith}
 use borrow.Author.Tests.{not-true}
 use Rattle.rules.specs.Scan.{lowest}
-use Rattle.rules.specs.Rows.{rowCount, size, end, Item, here, later}
+use Rattle.rules.specs.Rows.{rowCount, size, end, Child, here}
 use Rattle.rules.specs.Class.{defaultCase, caseBlock, select, oneOf, isSwitch, isCase, class}
 use Rattle.rules.specs.Scope.{isBlock}
 use Rattle.rules.specs.Labels.{isClass}
@@ -26,9 +26,10 @@ use Rattle.returns.proofs.Clauses.{isClause, clause-list, left, left-ended, lef
 use Rattle.goscript.specs.Build.{Build}
 use Rattle.goscript.specs.Syntax.{any, all, list}
 use Rattle.goscript.specs.Returns.{is-terminating-list, is-terminating-switch, has-break-list}
-use Rattle.goscript.proofs.VerdictItems.{of-list}
+use Rattle.goscript.proofs.OneBlock.{hasBlock, block-below}
+use Rattle.goscript.proofs.ListItems.{of-list}
 use Rattle.goscript.proofs.VerdictSteps.{any-none, any-more, all-none, all-more, none-fails, switch-clauses}
-use Rattle.goscript.proofs.VerdictSearch.{labelOf, Handed, hasBlock, block-below}
+use Rattle.goscript.proofs.VerdictSearch.{labelOf, Handed}
 use Rattle.goscript.proofs.VerdictBreaks.{list-breaks}
 use Rattle.goscript.proofs.VerdictLists.{Answered, list-rule}
 
@@ -50,20 +51,18 @@ module _ (build : Build) {w p b : List ℕ} (body : Body w p b) (s : ℕ) (row :
   block-of t = block-below body s row (class-rule opens hasBlock refl (class w s) t)
 
   -- what is left of the clauses, with the default found so far
-  module _ (t : opens (class w s) ≡ true) (default : ℕ → Bool) (agrees : (c : ℕ) → Item w (end w s) (suc (suc s)) c → default c ≡ isDefault (class w c)) where
+  module _ (t : opens (class w s) ≡ true) (default : ℕ → Bool) (agrees : (c : ℕ) → Child w (suc s) c → default c ≡ isDefault (class w c)) where
     abbrev Left : ℕ → List ℕ → Type 0
-    Left c l = ((k : ℕ) → Item w (end w (suc s)) c k → Item w (end w s) (suc (suc s)) k) → (found : Bool)
-        → all passes l && (found || any default l) ≡ left w p b (end w (suc s)) (labelNumber w s) c found
+    Left c l = (found : Bool) → all passes l && (found || any default l) ≡ left w p b (end w (suc s)) (labelNumber w s) c found
 
-    next : (c : ℕ) (l : List ℕ) → Closed w c (end w (suc s)) → c < end w (suc s) → Left (end w c) l → Left c (c ∷ l)
+    next : (c : ℕ) (l : List ℕ) → Closed w c (end w (suc s)) → c < end w (suc s) → Child w (suc s) c → Left (end w c) l → Left c (c ∷ l)
     unfolding every lowest
-    next c l a m rest i found =
+    next c l a m i rest found =
         let (j, q, d) = block-of t in
-        let k = i c (here m) in
-        let from = item-from k in
+        let from = item-from i in
         let o = closed-rest body a m .order in
         let h : c < rowCount w = omega (arith, a .within) in
-        let clause = clause-of body s row t c k in
+        let clause = clause-of body s row t c (rw q at i) in
         let no-block = not-true (opens (class w c)) (class-rule isClause (λ c. not (opens c)) refl (class w c) clause) in
         let ending = list-rule body c h build f answered (clause-list (class w c) clause) (omega arith) in
         let breaking = list-breaks body s row handed f c (omega arith) (omega arith) no-block (omega arith) in
@@ -71,26 +70,27 @@ module _ (build : Build) {w p b : List ℕ} (body : Body w p b) (s : ℕ) (row :
         case-of (isTerminatingList w p b (end w c) (suc c))
         (λ u. case-of (anyLeaves w p b (suc c) (end w c) n true)
         (λ v. rw (all-more passes c l, ending, u, breaking, v) (sym (left-broken body n found a m clause v)))
-        (λ v. rw (all-more passes c l, ending, u, breaking, v, any-more default c l, agrees c k, ← or-assoc found (isDefault (class w c)) (any default l))
-        (rest (λ r z. i r (later m z)) (found || isDefault (class w c)) ∙ left-next body n found a m clause u v)))
+        (λ v. rw (all-more passes c l, ending, u, breaking, v, any-more default c l, agrees c i, ← or-assoc found (isDefault (class w c)) (any default l))
+        (rest (found || isDefault (class w c)) ∙ left-next body n found a m clause u v)))
         (λ u. rw (all-more passes c l, ending, u) (sym (left-open body n found a m clause u)))
 
     clauses-rule : all passes (list w (suc s)) && (isClass w select s || any default (list w (suc s))) ≡ isTerminating w p b s
     clauses-rule =
         let (j, q, d) = block-of t in
         of-list body (suc s) (omega (arith, body .sized .within s row)) Left
-        (λ c e i found. rw (all-none passes, any-none default) (rw or-false (sym (left-ended body (end w (suc s)) (labelNumber w s) c found e))))
-        next (λ k i. rw q at i) (isClass w select s)
+        (λ found. rw (all-none passes, any-none default)
+        (rw or-false (sym (left-ended body (end w (suc s)) (labelNumber w s) (end w (suc s)) found (omega arith)))))
+        next (isClass w select s)
         ∙ rw (← q) at (left-start body s row t)
 
   -- the clauses of a switch are Cases
-  case-default : isSwitch (class w s) ≡ true → (c : ℕ) → Item w (end w s) (suc (suc s)) c → oneOf (defaultCase ∷ []) (class w c) ≡ isDefault (class w c)
+  case-default : isSwitch (class w s) ≡ true → (c : ℕ) → Child w (suc s) c → oneOf (defaultCase ∷ []) (class w c) ≡ isDefault (class w c)
   unfolding every lowest
   case-default t c i =
       let (j, q, d) = block-of (rw t) in
       let k = child-rule isSwitch (oneOf (caseBlock ∷ [])) refl (class w s) (class w (suc s)) t (body .child-fits s (suc s) row (here j)) in
       let h : suc s < rowCount w = omega (arith, body .sized .within s row) in
-      let e = child-rule (oneOf (caseBlock ∷ [])) isCase refl (class w (suc s)) (class w c) k (body .child-fits (suc s) c h (rw q i)) in
+      let e = child-rule (oneOf (caseBlock ∷ [])) isCase refl (class w (suc s)) (class w c) k (body .child-fits (suc s) c h i) in
       same-eq _ _ (class-rule isCase (λ c. same (oneOf (defaultCase ∷ []) c) (isDefault c)) refl (class w c) e)
 
   pub switch-rule : isSwitch (class w s) ≡ true

@@ -26,7 +26,7 @@ use Rattle.returns.proofs.ByClass.{last-answer}
 use Rattle.goscript.specs.Build.{Build}
 use Rattle.goscript.specs.Syntax.{findLast, list}
 use Rattle.goscript.specs.Returns.{nonEmpty, is-terminating, is-terminating-list}
-use Rattle.goscript.proofs.VerdictItems.{of-list}
+use Rattle.goscript.proofs.ListItems.{of-list}
 use Rattle.goscript.proofs.VerdictSteps.{last-none, last-later, last-here, last-passed, list-empty, list-last}
 use Rattle.goscript.proofs.VerdictSearch.{labelOf}
 
@@ -63,8 +63,8 @@ module _ {w p b : List ℕ} (body : Body w p b) (q : ℕ) (h : q < rowCount w) w
 
   last-of : LastOf w (suc q) (end w q) (findLast (nonEmpty w) (list w q))
   last-of = of-list body q h (λ c l. LastOf w c (end w q) (findLast (nonEmpty w) l))
-      (λ c e. rw (last-none (nonEmpty w)) (all-empty w 0 c (end w q) (λ r i j. absurd (omega arith))))
-      (λ c l a m rest. case-found (findLast (nonEmpty w) l) (found-later c l m rest) (found-here c l m rest))
+      (rw (last-none (nonEmpty w)) (all-empty w 0 (end w q) (end w q) (λ r i j. absurd (omega arith))))
+      (λ c l a m i rest. case-found (findLast (nonEmpty w) l) (found-later c l m rest) (found-here c l m rest))
 
   -- the list of a row that holds one
   pub list-rule : (build : Build) (f : ℕ) → Answered build w p b f → isList (class w q) ≡ true → 2 * size w q < suc (suc f)

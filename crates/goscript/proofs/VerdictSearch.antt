@@ -9,29 +9,22 @@ use mathlib.Core.Option.{Option, none, some}
 use Prim.Native.Nat.{ℕ, zero, suc, _<_}
 use native.Mathlib.Omega.{arith}
 use Rattle.rules.specs.Scan.{lowest}
-use Rattle.rules.specs.Rows.{rowCount, end, here}
+use Rattle.rules.specs.Rows.{end}
 use Rattle.rules.specs.Class.{
   Class,
   labeled,
   break,
   if,
   ifElse,
-  switch,
-  typeSwitch,
-  select,
-  for,
-  forCond,
   oneOf,
   isBreakable,
   class,
 }
 use Rattle.rules.specs.Names.{nameBytes}
-use Rattle.rules.specs.Refusals.{body as oneBlock, holding}
-use Rattle.rules.specs.Scope.{isList, isBlock, holdsItems}
-use Rattle.rules.specs.Body.{Body}
+use Rattle.rules.specs.Scope.{isList, holdsItems}
 use Rattle.rules.proofs.Test.{case-of}
 use Rattle.rules.proofs.Every.{every}
-use Rattle.rules.proofs.ClassRules.{isClauseBlock, by-one, class-rule, child-rule}
+use Rattle.rules.proofs.ClassRules.{isClauseBlock, by-one, class-rule}
 use Rattle.returns.specs.Search.{labelNumber}
 use Rattle.goscript.specs.Build.{Build}
 use Rattle.goscript.specs.Syntax.{ident}
@@ -54,10 +47,6 @@ pub record Handed (build : Build) (w p b : List ℕ) (s : ℕ) : Type 0 where
 
 -- ---- the classes by the search
 
--- a Block is the one child
-abbrev pub hasBlock : Class → Bool
-hasBlock = oneOf (if ∷ switch ∷ typeSwitch ∷ select ∷ for ∷ forCond ∷ [])
-
 -- what stands below is searched as it is
 abbrev pub hidesNone : Class → Bool
 hidesNone c = holdsItems c || oneOf (labeled ∷ if ∷ ifElse ∷ []) c
@@ -72,14 +61,3 @@ by-search c n breakless breakable lists label breaks one two =
     case-of (isBreakable c) breakable (λ x. case-of (isList c) lists (λ y. case-of (oneOf (labeled ∷ break ∷ if ∷ ifElse ∷ []) c)
     (λ t. by-one _ (labeled ∷ break ∷ if ∷ ifElse ∷ []) c t label breaks one two)
     (λ z. breakless (class-rule (λ c. not (hasOther c)) isBreakless refl c (rw (n, x, y, z))))))
-
-module _ {w p b : List ℕ} (body : Body w p b) where
-  -- the one child of such a row
-  pub block-below : (r : ℕ) → r < rowCount w → hasBlock (class w r) ≡ true
-      → (suc r < end w r) × (end w (suc r) ≡ end w r) × (isBlock (class w (suc r)) ≡ true)
-  unfolding every lowest
-  block-below r h t =
-      let k : holding (class w r) ≡ oneBlock = by-one _ (if ∷ switch ∷ typeSwitch ∷ select ∷ for ∷ forCond ∷ []) (class w r) t
-      (λ e. rw e) (λ e. rw e) (λ e. rw e) (λ e. rw e) (λ e. rw e) (λ e. rw e) in
-      let (l, q) = body .one-block r h k in
-      (l, q, child-rule hasBlock isBlock refl (class w r) (class w (suc r)) t (body .child-fits r (suc r) h (here l)))

@@ -1,5 +1,5 @@
--- The walk of the whole body: every statement is walked, by induction on the calls, and so the body's own list from row 1 to its end. There the state is that of the walk at the
--- end, of which the sheet and the bindings are made.
+-- The walk of the whole body: every statement is walked, by induction on the calls, and so the body's own list from row 1 to its end. There the state is that
+-- of the walk at the end, of which the sheet and the bindings are made.
 -- Assumes nothing.
 use mathlib.Core.Path.{_≡_, refl, sym, ap}
 use mathlib.Core.List.{List, []}

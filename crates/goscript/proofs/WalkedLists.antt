@@ -1,28 +1,27 @@
--- A list: its items are walked one after the other, each from the state that the one before leaves, so the state at the list's end is that of the walk there. An item
--- leaves the current label as it was, or in stock that of a statement ended with it; either way it adds nothing for the items after it.
+-- A list: its items are walked one after the other, each from the state that the one before leaves, so the state at the list's end is that of the walk there.
+-- An item leaves the current label as it was, or in stock that of a statement ended with it; either way it adds nothing for the items after it.
 -- Assumes nothing.
 use mathlib.Core.Path.{_≡_, _∙_}
 use mathlib.Core.Bool.{true}
 use mathlib.Core.Logic.{_⊎_, inl, inr}
 use mathlib.Core.List.{List, _∷_}
 use mathlib.Core.Option.{Option}
-use Prim.Native.Nat.{ℕ, zero, suc, _+_, _≤_, _<_}
+use Prim.Native.Nat.{ℕ, suc, _+_, _≤_, _<_}
 use native.Mathlib.Omega.{arith}
-use native.Mathlib.Decide.{decLt, ℕ-discrete}
-use borrow.Author.Tests.{lt-ltb, le-ltb}
-use Rattle.rules.specs.Rows.{rowCount, size, end, Child, here}
+use Rattle.rules.specs.Rows.{rowCount, size, end, Child}
 use Rattle.rules.specs.Class.{class}
 use Rattle.rules.specs.Body.{Body}
 use Rattle.rules.specs.Scope.{holdsItems}
 use Rattle.rules.proofs.Test.{clash}
-use Rattle.rules.proofs.Nesting.{item-next}
+use Rattle.rules.proofs.Nesting.{item-from, ends-before}
 use Rattle.goscript.specs.Build.{mended, Build}
-use Rattle.goscript.specs.Syntax.{through, items, list}
+use Rattle.goscript.specs.Syntax.{through, list}
 use Rattle.goscript.specs.Block.{Block, new, enclosing-target}
 use Rattle.goscript.specs.Context.{new as newContext}
 use Rattle.goscript.specs.Checker.{Checker}
 use Rattle.goscript.specs.Label.{State, Outgoing, block-branches, stmt-branches}
 use Rattle.goscript.specs.Domains.{noneNamesEnded}
+use Rattle.goscript.proofs.ListItems.{of-list}
 use Rattle.goscript.proofs.Walking.{jumpsAt, CheckerAt, BlocksAt, At, AddsNothing}
 use Rattle.goscript.proofs.ContextRows.{context-new}
 use Rattle.goscript.proofs.Stacked.{item-stacked}
@@ -56,43 +55,36 @@ module _ {build : Build} {w p b : List ℕ} (body : Body w p b) (domain : Domain
     abbrev walk : List ℕ → State → State
     walk = through (λ x s. stmt-branches build w p b f x s)
 
-    items-walked : (n c : ℕ) (s : State) → l < c → c ≤ end w l → end w l ≤ c + n → (c < end w l → Child w l c) → ((u : ℕ) → l < u → u < c → end w u ≤ c)
-        → At w p b l c s → AddsNothing w p b l c (s .blocks) (s .ctx .lstmt) → At w p b l (end w l) (walk (items w n (end w l) c) s)
-    unfolding through items
-    items-walked zero c s h m e child ended a adds = let z : c ≡ end w l = omega arith in rw (← z) a
-    items-walked (suc n) c s h m e child ended a adds = elim (decLt c (end w l)) [
-      | no o ↦ let z : c ≡ end w l = omega arith in rw (le-ltb c (end w l) (omega arith), items) (rw (← z) a)
-      | yes i ↦
-          let ch = child i in
-          let row : c < rowCount w = omega (arith, body .sized .within l home) in
-          let reach = body .child-within l c home ch in
-          let more = body .sized .some-rows c row in
-          let position = item c (record {
-            stacked = item-stacked h i ended;
-            holds = holds;
-            fit = body .child-fits l c home ch;
-            on-item = bare (λ k y z. absurd (omega arith)) adds;
-          }) in
-          let d = statements l c s home row (omega arith) position a in
-          rw (lt-ltb c (end w l) i, items)
-          (items-walked n (end w c) (stmt-branches build w p b f c s) (omega arith) reach (omega arith) (λ j. item-next ch j) (after-item row)
-          (d .state) (adds-after l c s (stmt-branches build w p b f c s) home row (d .current) (d .targets-kept) adds))
-    ]
-      where
-        after-item : c < rowCount w → (u : ℕ) → l < u → u < end w c → end w u ≤ end w c
-        after-item row u y z = elim (decLt u c) [
-          | yes j ↦ omega (arith, ended u y j)
-          | no j ↦ elim (ℕ-discrete u c) [ yes v ↦ rw v (omega arith) | no o ↦ body .nested c u row (omega arith) z ]
-        ]
+    -- the items from c on, where the walk stands at c, are walked to the list's end
+    abbrev Walks : ℕ → List ℕ → Type 0
+    Walks c xs = (s : State) → At w p b l c s → AddsNothing w p b l c (s .blocks) (s .ctx .lstmt) → At w p b l (end w l) (walk xs s)
+
+    item-walked : (c : ℕ) (xs : List ℕ) → c < end w l → Child w l c → Walks (end w c) xs → Walks c (c ∷ xs)
+    unfolding through
+    item-walked c xs i ch rest s a adds =
+        let row : c < rowCount w = omega (arith, body .sized .within l home) in
+        let from = item-from ch in
+        let reach = body .child-within l c home ch in
+        let position = item c (record {
+          stacked = item-stacked (omega arith) i (λ u h m. ends-before (body .sized) (body .child-within) (body .sized .within l home) ch u h m);
+          holds = holds;
+          fit = body .child-fits l c home ch;
+          on-item = bare (λ k y z. absurd (omega arith)) adds;
+        }) in
+        let d = statements l c s home row (omega arith) position a in
+        rest (stmt-branches build w p b f c s) (d .state)
+        (adds-after l c s (stmt-branches build w p b f c s) home row (d .current) (d .targets-kept) adds)
+
+    items-walked : Walks (suc l) (list w l)
+    unfolding through
+    items-walked = of-list body l home Walks (λ s a adds. a) (λ c xs closed i ch rest. item-walked c xs i ch rest)
 
     -- ---- the list as a whole
     pub list-walked : (lstmt : Option ℕ) (parent : List Block) (checker : Checker) (o : Outgoing)
         → o ≡ block-branches build w p b (suc f) parent lstmt (list w l) checker → CheckerAt w p b (suc l) checker → BlocksAt w p b l (suc l) (new lstmt ∷ parent)
         → CheckerAt w p b (end w l) (o .checker) × (o .fwd-jumps ≡ jumpsAt w p b l (end w l))
-    unfolding list
     list-walked lstmt parent checker o e c a =
         let s : State = record { checker = checker; blocks = new lstmt ∷ parent; ctx = newContext lstmt } in
-        let some-rows = body .sized .some-rows l home in
-        let d = items-walked (size w l) (suc l) s (omega arith) (omega arith) (omega arith) (λ h. here h) (λ u y z. absurd (omega arith))
-        (record { checker = c; ctx = context-new body l lstmt; blocks = a }) (adds-own w p b l (suc l) (new lstmt) parent) in
+        let d = items-walked s
+        (record { checker = c; ctx = context-new l lstmt; blocks = a }) (adds-own w p b l (suc l) (new lstmt) parent) in
         rw (e ∙ list-walk build w p b f parent lstmt (list w l) checker) (d .checker, d .ctx .jumps-are)

@@ -1,8 +1,8 @@
--- The walk of goscript's `stmt_branches` from the state at row x to the state at the row's end, by induction on the calls: a row's own work by the laws of its class, the rows below
--- it by those of its children, each told where it stands.
+-- The walk of goscript's `stmt_branches` from the state at row x to the state at the row's end, by induction on the calls: a row's own work by the laws of its
+-- class, the rows below it by those of its children, each told where it stands.
 -- Assumes nothing.
-use mathlib.Core.Path.{_≡_, refl, sym, _∙_}
-use mathlib.Core.Bool.{Bool, true, false, _||_, not}
+use mathlib.Core.Path.{_≡_, refl, _∙_}
+use mathlib.Core.Bool.{true, false, _||_, not}
 use mathlib.Core.Logic.{_⊎_, inl, inr}
 use mathlib.Core.List.{List, [], _∷_}
 use mathlib.Core.Option.{Option, none, some}
@@ -12,57 +12,43 @@ use native.Mathlib.Decide.{ℕ-discrete}
 use borrow.Author.Tests.{not-true}
 use Rattle.rules.specs.Scan.{lowest}
 use Rattle.rules.specs.Rows.{rowCount, name, size, end, Child, here}
-use Rattle.rules.specs.Class.{Class, declaration, labeled, if, ifElse, switch, typeSwitch, select, for, forCond, oneOf, isBranch, isStatement, class}
+use Rattle.rules.specs.Class.{Class, labeled, ifElse, oneOf, isStatement, class}
 use Rattle.rules.specs.Names.{isBlank}
 use Rattle.rules.specs.Body.{Body, OneChild, fits}
-use Rattle.rules.specs.Refusals.{body as oneBody, holding}
 use Rattle.rules.specs.Scope.{isBlock, holdsItems}
 use Rattle.rules.specs.Labels.{isLabel}
-use Rattle.rules.proofs.Test.{case-of, clash, or-false}
+use Rattle.rules.proofs.Test.{case-of, clash}
 use Rattle.rules.proofs.Every.{every}
-use Rattle.rules.proofs.ClassRules.{by-one, class-rule, child-rule}
+use Rattle.rules.proofs.ClassRules.{class-rule, child-rule}
 use Rattle.rules.proofs.Nesting.{item-before, item-from, item-next, ends-before}
-use Rattle.rules.proofs.LabelRows.{label-is, other-label, blank-label}
-use Rattle.branches.proofs.WalkPending.{pending-other}
+use Rattle.rules.proofs.LabelRows.{label-is, blank-label}
 use Rattle.branches.proofs.CanonRows.{body-end}
 use Rattle.goscript.specs.Build.{Place, original, mended, Build}
 use Rattle.goscript.specs.Syntax.{list}
 use Rattle.goscript.specs.Block.{enclosing-target}
 use Rattle.goscript.specs.Label.{State, append, afterLabeled, block-branches, stmt-branches}
+use Rattle.goscript.proofs.OneBlock.{hasBlock, block-below}
 use Rattle.goscript.proofs.Walking.{At, Finds}
-use Rattle.goscript.proofs.CheckerRows.{quiet-row}
-use Rattle.goscript.proofs.ContextRows.{context-same, context-lstmt}
+use Rattle.goscript.proofs.ContextRows.{context-lstmt}
 use Rattle.goscript.proofs.ContextLists.{context-nested}
-use Rattle.goscript.proofs.BlockRows.{blocks-same, blocks-open, blocks-after}
+use Rattle.goscript.proofs.BlockRows.{blocks-open, blocks-after}
 use Rattle.goscript.proofs.Stacked.{below-label}
 use Rattle.goscript.proofs.CurrentLabels.{finds-below, finds-kept}
-use Rattle.goscript.proofs.Arms.{isClause, hasBody, labels, two-parts, stays, put-back, at-blank, at-label, at-block, at-clause, at-body, at-else}
-use Rattle.goscript.proofs.LeafRows.{Leaves, kept, left, Walked}
+use Rattle.goscript.proofs.Arms.{isClause, stays, put-back, at-blank, at-label, at-block, at-clause, at-body, at-else}
+use Rattle.goscript.proofs.LeafRows.{isOther, Leaves, kept, left, Walked, passed-row, no-labeled, passed}
 use Rattle.goscript.proofs.LabelRows.{entered, entered-targets, entered-state, entered-current}
 use Rattle.goscript.proofs.Positions.{isPart, OnItem, bare, under, InItem, Position, item, part, stands, its-list, finds-here, finds-clause}
 use Rattle.goscript.proofs.WalkedLists.{Domain, Statements, list-walked}
 
 -- ---- rules of the classes
 
--- neither label, branch nor declaration
-abbrev isOther : Class → Bool
-isOther c = not (isBranch c || oneOf (labeled ∷ declaration ∷ []) c)
-
-block-other : (c : Class) → isBlock c ≡ true → isOther c ≡ true
+holds-other : (c : Class) → holdsItems c ≡ true → isOther c ≡ true
 unfolding every lowest
-block-other = class-rule isBlock isOther refl
+holds-other = class-rule holdsItems isOther refl
 
-clause-other : (c : Class) → isClause c ≡ true → isOther c ≡ true
+pub parts-other : (c : Class) → hasBlock c ≡ true → isOther c ≡ true
 unfolding every lowest
-clause-other = class-rule isClause isOther refl
-
-pub parts-other : (c : Class) → hasBody c ≡ true → isOther c ≡ true
-unfolding every lowest
-parts-other = class-rule hasBody isOther refl
-
-block-holds : (c : Class) → isBlock c ≡ true → holdsItems c ≡ true
-unfolding every lowest
-block-holds = class-rule isBlock holdsItems refl
+parts-other = class-rule hasBlock isOther refl
 
 clause-holds : (c : Class) → isClause c ≡ true → holdsItems c ≡ true
 unfolding every lowest
@@ -76,12 +62,9 @@ clause-no-part : (c : Class) → isClause c ≡ true → isPart c ≡ false
 unfolding every lowest
 clause-no-part c t = not-true (isPart c) (class-rule isClause (λ c. not (isPart c)) refl c t)
 
-one-body : (c : Class) → hasBody c ≡ true → holding c ≡ oneBody
-one-body c t = by-one _ (if ∷ switch ∷ typeSwitch ∷ select ∷ for ∷ forCond ∷ []) c t (λ e. rw e) (λ e. rw e) (λ e. rw e) (λ e. rw e) (λ e. rw e) (λ e. rw e)
-
-child-part : (q c : Class) → (hasBody q || oneOf (ifElse ∷ []) q) ≡ true → fits q c ≡ true → isPart c ≡ true
+child-part : (q c : Class) → (hasBlock q || oneOf (ifElse ∷ []) q) ≡ true → fits q c ≡ true → isPart c ≡ true
 unfolding every lowest
-child-part = child-rule (λ q. hasBody q || oneOf (ifElse ∷ []) q) isPart refl
+child-part = child-rule (λ q. hasBlock q || oneOf (ifElse ∷ []) q) isPart refl
 
 part-unlabeled : (c : Class) → isPart c ≡ true → c ≡ labeled → ⊥
 part-unlabeled c t e = let z : false ≡ true = rw e at t in clash (cc)
@@ -90,23 +73,6 @@ part-unlabeled c t e = let z : false ≡ true = rw e at t in clash (cc)
 by-place : {G : Type 0} (q : Place) → (q ≡ original → G) → (q ≡ mended → G) → G
 by-place original f g = f refl
 by-place mended f g = g refl
-
--- ---- a row that changes nothing by itself
-passed-row : {w p b : List ℕ} (body : Body w p b) (l x : ℕ) (s : State) → isBranch (class w x) ≡ false → isLabel w p b 0 x ≡ false → (class w x ≡ declaration → ⊥)
-    → At w p b l x s → At w p b l (suc x) s
-passed-row {w} {p} {b} body l x s f n d a = record {
-  checker = quiet-row body x (s .checker) f n (a .checker);
-  ctx = context-same body l x (s .ctx) n (pending-other w p b (suc x) x (λ e. let z : false ≡ true = sym f ∙ rw e in clash (cc))) (λ e i. d e) (a .ctx);
-  blocks = blocks-same body l x (s .blocks) (λ t e. clash (cc)) (a .blocks);
-}
-
-module _ (w : List ℕ) (x : ℕ) (o : isOther (class w x) ≡ true) where
-  no-labeled : class w x ≡ labeled → ⊥
-  no-labeled e = let z : false ≡ true = rw e at o in clash (cc)
-
-  passed : {p b : List ℕ} (body : Body w p b) (l : ℕ) (s : State) → At w p b l x s → At w p b l (suc x) s
-  passed {p} {b} body l s a = passed-row body l x s (or-false (isBranch (class w x)) (oneOf (labeled ∷ declaration ∷ []) (class w x)) (not-true _ o) .0)
-      (other-label w p b 0 x no-labeled) (λ e. let z : false ≡ true = rw e at o in clash (cc)) a
 
 -- what is no part of a statement stands in a list
 pub in-list : {w p b : List ℕ} {l x : ℕ} {s : State} → isPart (class w x) ≡ false → Position w p b l x s → (i : ℕ) × InItem w p b l i x s
@@ -128,17 +94,18 @@ module _ (build : Build) {w p b : List ℕ} (body : Body w p b) (domain : Domain
   finds n = finds-here body home row position (a .blocks) n
 
   -- ---- a list inside the list l
-  nested-walked : (f : ℕ) → Statements build w p b f → size w x + size w x ≤ suc (suc f) → holdsItems (class w x) ≡ true → isOther (class w x) ≡ true
+  nested-walked : (f : ℕ) → Statements build w p b f → size w x + size w x ≤ suc (suc f) → holdsItems (class w x) ≡ true
       → (lstmt : Option ℕ) → Finds w p b x (s .blocks) lstmt
       → Walked build w p b l x s (append s (block-branches build w p b (suc f) (s .blocks) lstmt (list w x) (s .checker)))
-  nested-walked f statements few holds o lstmt found =
+  nested-walked f statements few holds lstmt found =
+      let o = holds-other (class w x) holds in
       let out = block-branches build w p b (suc f) (s .blocks) lstmt (list w x) (s .checker) in
       let (c, jumps) = list-walked body domain f x row holds few statements lstmt (s .blocks) (s .checker) out refl (passed w x o body l s a .checker)
       (blocks-open body l x lstmt (s .blocks) after within (no-labeled w x o) (a .blocks) found) in
       record {
         state = record {
           checker = c;
-          ctx = rw jumps (context-nested body l x (s .ctx) after row holds within (a .ctx));
+          ctx = rw jumps (context-nested body l x (s .ctx) after row holds (a .ctx));
           blocks = blocks-after body l x (s .blocks) after row holds (a .blocks);
         };
         targets-kept = λ m. refl;
@@ -148,21 +115,21 @@ module _ (build : Build) {w p b : List ℕ} (body : Body w p b) (domain : Domain
   pub block-walked : (f : ℕ) → Statements build w p b f → size w x + size w x ≤ suc (suc f) → isBlock (class w x) ≡ true
       → Walked build w p b l x s (stmt-branches build w p b (suc (suc f)) x s)
   block-walked f statements few t =
-      let o = block-other (class w x) t in
+      let holds : holdsItems (class w x) ≡ true = rw t in
       rw (at-block build w p b (suc f) x s t)
-      (nested-walked f statements few (block-holds (class w x) t) o (s .ctx .lstmt) (finds (no-labeled w x o)))
+      (nested-walked f statements few holds (s .ctx .lstmt) (finds (no-labeled w x (holds-other (class w x) holds))))
 
   pub clause-walked : (f : ℕ) → Statements build w p b f → size w x + size w x ≤ suc (suc f) → isClause (class w x) ≡ true
       → Walked build w p b l x s (stmt-branches build w p b (suc (suc f)) x s)
   clause-walked f statements few t =
       rw (at-clause build w p b (suc f) x s t)
-      (nested-walked f statements few (clause-holds (class w x) t) (clause-other (class w x) t) none
+      (nested-walked f statements few (clause-holds (class w x) t) none
       (finds-clause body home row (in-list (clause-no-part (class w x) t) position .1) (a .blocks) (clause-no-statement (class w x) t)))
 
   -- ---- a statement's parts: the first one, from the state at the statement
   module _ (f : ℕ) (statements : Statements build w p b f) (few : size w x + size w x ≤ suc f) (o : isOther (class w x) ≡ true) where
     -- a part y of x, from a state s1 that has walked the parts before it
-    part-walked : (y : ℕ) (s1 : State) → (hasBody (class w x) || oneOf (ifElse ∷ []) (class w x)) ≡ true → Child w x y → s1 .ctx .lstmt ≡ s .ctx .lstmt
+    part-walked : (y : ℕ) (s1 : State) → (hasBlock (class w x) || oneOf (ifElse ∷ []) (class w x)) ≡ true → Child w x y → s1 .ctx .lstmt ≡ s .ctx .lstmt
         → ((n : List ℕ) → enclosing-target w p b n (s1 .blocks) ≡ enclosing-target w p b n (s .blocks)) → At w p b l y s1
         → Walked build w p b l y s1 (stmt-branches build w p b f y s1) × (stmt-branches build w p b f y s1 .ctx .lstmt ≡ s .ctx .lstmt)
     part-walked y s1 t ch e same at1 =
@@ -186,9 +153,9 @@ module _ (build : Build) {w p b : List ℕ} (body : Body w p b) (domain : Domain
         still (kept i) v = i ∙ e
         still (left c q r i u h m) v = absurd (part-unlabeled (class w y) v c)
 
-    pub body-walked : hasBody (class w x) ≡ true → Walked build w p b l x s (stmt-branches build w p b (suc f) x s)
+    pub body-walked : hasBlock (class w x) ≡ true → Walked build w p b l x s (stmt-branches build w p b (suc f) x s)
     body-walked t =
-        let (h, e) = body .one-block x row (one-body (class w x) t) in
+        let (h, e, k) = block-below body x row t in
         let (d, i) = part-walked (suc x) s (rw t) (here h) refl (λ n. refl) (passed w x o body l s a) in
         rw (at-body build w p b f x s t) (record { state = rw (← e) (d .state); targets-kept = d .targets-kept; current = kept i })
 
@@ -217,7 +184,7 @@ module _ (build : Build) {w p b : List ℕ} (body : Body w p b) (domain : Domain
         by-place (build .A)
         (λ q. rw (stays build (s .ctx .lstmt) s2 q) (record { state = at-end; targets-kept = λ n. d .targets-kept n ∙ same n; current = left-or-kept q (d .current) before }))
         (λ q. rw (put-back build (s .ctx .lstmt) s2 q) (record {
-          state = record { checker = at-end .checker; ctx = context-lstmt body l (end w x) (s2 .ctx) (s .ctx .lstmt) (at-end .ctx); blocks = at-end .blocks };
+          state = record { checker = at-end .checker; ctx = context-lstmt l (end w x) (s2 .ctx) (s .ctx .lstmt) (at-end .ctx); blocks = at-end .blocks };
           targets-kept = λ n. d .targets-kept n ∙ same n;
           current = kept refl;
         }))
