@@ -103,6 +103,33 @@ module _ (build : Build) (lstmt : Option ℕ) (s : State) where
   pub put-back : build .A ≡ mended → afterLabeled build lstmt s ≡ in-ctx (with-lstmt lstmt) s
   put-back q = rw (q, afterLabeled)
 
+-- ---- branches
+module _ (w p b : List ℕ) (s : ℕ) (state : State) where
+  pub has-label : (labeled-state : State) → (name w s ≡ 0 → ⊥) → labelled w s labeled-state state ≡ labeled-state
+  has-label labeled-state n = rw (ne-eqb (name w s) 0 n, labelled)
+
+  pub has-none : (labeled-state : State) → name w s ≡ 0 → labelled w s labeled-state state ≡ state
+  has-none labeled-state z = rw (eq-eqb (name w s) 0 z, labelled)
+
+  pub break-used : (kinds : Class → Bool) (code : ℕ) → valid w kinds (enclosing-target w p b (ident w p b s) (state .blocks)) ≡ true
+      → labelledBreak w p b kinds code s state ≡ recordLabelUse w p b s state
+  unfolding labelledBreak
+  break-used kinds code t = rw (t, labelledBreak)
+
+  pub break-reported : (kinds : Class → Bool) (code : ℕ) → valid w kinds (enclosing-target w p b (ident w p b s) (state .blocks)) ≡ false
+      → labelledBreak w p b kinds code s state ≡ in-checker (error (fault w code s ∷ [])) state
+  unfolding labelledBreak
+  break-reported kinds code t = rw (t, labelledBreak)
+
+  pub goto-used : (t : ℕ) → goto-target w p b (ident w p b s) (state .blocks) ≡ some t → gotoBranch w p b s state ≡ recordLabelUse w p b s state
+  unfolding gotoBranch
+  goto-used t e = rw (e, gotoBranch)
+
+  pub goto-pushed : goto-target w p b (ident w p b s) (state .blocks) ≡ none
+      → gotoBranch w p b s state ≡ in-ctx (with-jumps (state .ctx .fwd-jumps ++ s ∷ [])) state
+  unfolding gotoBranch
+  goto-pushed e = rw (e, gotoBranch)
+
 module _ (build : Build) (w p b : List ℕ) where
   -- ---- a list
   pub list-walk : (f : ℕ) (parent : List Block) (lstmt : Option ℕ) (l : List ℕ) (checker : Checker)
@@ -111,33 +138,6 @@ module _ (build : Build) (w p b : List ℕ) where
       (record { checker = checker; blocks = newBlock lstmt ∷ parent; ctx = newContext lstmt }))
   unfolding block-branches
   list-walk f parent lstmt l checker = refl
-
-  -- ---- branches
-  module _ (s : ℕ) (state : State) where
-    pub has-label : (labeled-state : State) → (name w s ≡ 0 → ⊥) → labelled build w p b s labeled-state state ≡ labeled-state
-    has-label labeled-state n = rw (ne-eqb (name w s) 0 n, labelled)
-
-    pub has-none : (labeled-state : State) → name w s ≡ 0 → labelled build w p b s labeled-state state ≡ state
-    has-none labeled-state z = rw (eq-eqb (name w s) 0 z, labelled)
-
-    pub break-used : (kinds : Class → Bool) (code : ℕ) → valid w kinds (enclosing-target w p b (ident w p b s) (state .blocks)) ≡ true
-        → labelledBreak build w p b kinds code s state ≡ recordLabelUse build w p b s state
-    unfolding labelledBreak
-    break-used kinds code t = rw (t, labelledBreak)
-
-    pub break-reported : (kinds : Class → Bool) (code : ℕ) → valid w kinds (enclosing-target w p b (ident w p b s) (state .blocks)) ≡ false
-        → labelledBreak build w p b kinds code s state ≡ in-checker (error (fault w code s ∷ [])) state
-    unfolding labelledBreak
-    break-reported kinds code t = rw (t, labelledBreak)
-
-    pub goto-used : (t : ℕ) → goto-target w p b (ident w p b s) (state .blocks) ≡ some t → gotoBranch build w p b s state ≡ recordLabelUse build w p b s state
-    unfolding gotoBranch
-    goto-used t e = rw (e, gotoBranch)
-
-    pub goto-pushed : goto-target w p b (ident w p b s) (state .blocks) ≡ none
-        → gotoBranch build w p b s state ≡ in-ctx (with-jumps (state .ctx .fwd-jumps ++ s ∷ [])) state
-    unfolding gotoBranch
-    goto-pushed e = rw (e, gotoBranch)
 
   -- ---- a statement
   module _ (f s : ℕ) (state : State) where
@@ -156,24 +156,24 @@ module _ (build : Build) (w p b : List ℕ) where
 
     pub at-label : class w s ≡ labeled → isBlank p b (name w s) ≡ false
         → stmt-branches build w p b (suc f) s state
-        ≡ afterLabeled build (state .ctx .lstmt) (stmt-branches build w p b f (suc s) (resolveAll build w p b s (declare build w p b s state)))
+        ≡ afterLabeled build (state .ctx .lstmt) (stmt-branches build w p b f (suc s) (resolveAll w p b s (declare w p b s state)))
     unfolding stmt-branches
     at-label e t = rw (e, t, stmt-branches)
 
-    pub at-break : class w s ≡ break → stmt-branches build w p b (suc f) s state ≡ labelled build w p b s (labelledBreak build w p b isBreakable 4 s state) state
+    pub at-break : class w s ≡ break → stmt-branches build w p b (suc f) s state ≡ labelled w s (labelledBreak w p b isBreakable 4 s state) state
     unfolding stmt-branches
     at-break e = rw (e, stmt-branches)
 
-    pub at-continue : class w s ≡ continue → stmt-branches build w p b (suc f) s state ≡ labelled build w p b s (labelledBreak build w p b isLoop 5 s state) state
+    pub at-continue : class w s ≡ continue → stmt-branches build w p b (suc f) s state ≡ labelled w s (labelledBreak w p b isLoop 5 s state) state
     unfolding stmt-branches
     at-continue e = rw (e, stmt-branches)
 
-    pub at-goto : class w s ≡ goto → stmt-branches build w p b (suc f) s state ≡ labelled build w p b s (gotoBranch build w p b s state) state
+    pub at-goto : class w s ≡ goto → stmt-branches build w p b (suc f) s state ≡ labelled w s (gotoBranch w p b s state) state
     unfolding stmt-branches
     at-goto e = rw (e, stmt-branches)
 
     pub at-fallthrough : class w s ≡ fallthrough
-        → stmt-branches build w p b (suc f) s state ≡ labelled build w p b s (in-checker (error (fault w 6 s ∷ [])) state) state
+        → stmt-branches build w p b (suc f) s state ≡ labelled w s (in-checker (error (fault w 6 s ∷ [])) state) state
     unfolding stmt-branches
     at-fallthrough e = rw (e, stmt-branches)
 

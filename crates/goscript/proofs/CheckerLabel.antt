@@ -24,7 +24,6 @@ use Rattle.rules.proofs.SheetRows.{repeated-not, repeated-is, report-label}
 use Rattle.branches.specs.Walk.{faultsAt}
 use Rattle.branches.proofs.CanonRows.{body-end}
 use Rattle.branches.proofs.WalkFaults.{faults-suc}
-use Rattle.goscript.specs.Build.{Build}
 use Rattle.goscript.specs.Syntax.{through, contains, ident, lookup}
 use Rattle.goscript.specs.Context.{Context}
 use Rattle.goscript.specs.Checker.{Checker}
@@ -39,9 +38,9 @@ use Rattle.goscript.proofs.ResolveRows.{reports, reports-is, reports-no
 use Rattle.goscript.proofs.TakenRows.{takes, use-taken, use-waits, use-other, over-taken, over-not}
 
 -- `declare` leaves the context as it is
-pub declare-ctx : (build : Build) (w p b : List ℕ) (x : ℕ) (s : State) → declare build w p b x s .ctx ≡ s .ctx
+pub declare-ctx : (w p b : List ℕ) (x : ℕ) (s : State) → declare w p b x s .ctx ≡ s .ctx
 unfolding declare
-declare-ctx build w p b x s = case-found (lookup w p b (ident w p b x) (s .checker .all)) (λ d e. rw (e, declare)) (λ e. rw (e, declare))
+declare-ctx w p b x s = case-found (lookup w p b (ident w p b x) (s .checker .all)) (λ d e. rw (e, declare)) (λ e. rw (e, declare))
 
 module _ {w p b : List ℕ} (body : Body w p b) (x : ℕ) (row : x < rowCount w) (label : isLabel w p b 0 x ≡ true) where
   -- ---- the label's own work
@@ -58,9 +57,9 @@ module _ {w p b : List ℕ} (body : Body w p b) (x : ℕ) (row : x < rowCount w)
       let (d, e, h) = some-declared w p b 0 x x (omega (arith, body-end body)) (labels-is w p b 0 x x label (same-own w p b x)) in
       elim (ℕ-discrete d x) [ yes i ↦ first (e ∙ ap some i) | no n ↦ again d e (omega arith) ]
 
-  module _ (build : Build) (s : State) (at : CheckerAt w p b x (s .checker)) where
+  module _ (s : State) (at : CheckerAt w p b x (s .checker)) where
     -- the declared label of its name
-    first-placed : declared w p b 0 x ≡ some x → Placed (s .checker) (declare build w p b x s .checker)
+    first-placed : declared w p b 0 x ≡ some x → Placed (s .checker) (declare w p b x s .checker)
     unfolding declare
     first-placed e =
         rw (none-yet body x x x (s .checker) at e (omega arith), declare) (record {
@@ -75,7 +74,7 @@ module _ {w p b : List ℕ} (body : Body w p b) (x : ℕ) (row : x < rowCount w)
         })
 
     -- one more label of a name
-    again-placed : (d : ℕ) → declared w p b 0 x ≡ some d → d < x → Placed (s .checker) (declare build w p b x s .checker)
+    again-placed : (d : ℕ) → declared w p b 0 x ≡ some d → d < x → Placed (s .checker) (declare w p b x s .checker)
     unfolding declare
     again-placed d e h =
         let n : d ≡ x → ⊥ = λ i. omega arith in
@@ -90,17 +89,17 @@ module _ {w p b : List ℕ} (body : Body w p b) (x : ℕ) (row : x < rowCount w)
           same-used = refl;
         })
 
-    placed : Placed (s .checker) (declare build w p b x s .checker)
+    placed : Placed (s .checker) (declare w p b x s .checker)
     placed = by-first first-placed again-placed
 
   -- ---- the jumps that it resolves
-  module _ (build : Build) (l : ℕ) (listed : listOf w 0 x ≡ some l) (c e : Checker) (ctx : Context) (at : CheckerAt w p b x c) (in-list : ContextAt w p b l x ctx)
+  module _ (l : ℕ) (listed : listOf w 0 x ≡ some l) (c e : Checker) (ctx : Context) (at : CheckerAt w p b x c) (in-list : ContextAt w p b l x ctx)
       (first : Placed c e) where
     abbrev after : Checker
-    after = through (resolve build w p b x ctx) (passing (waits w p b l x) x) e
+    after = through (resolve w p b x ctx) (passing (waits w p b l x) x) e
 
-    gives : Resolved build w p b x ctx (waits w p b l x) e x after
-    gives = resolved build w p b x ctx (waits w p b l x) e x
+    gives : Resolved w p b x ctx (waits w p b l x) e x after
+    gives = resolved w p b x ctx (waits w p b l x) e x
 
     abbrev found : ℕ → List Fault
     found = reports w p b x ctx (waits w p b l x)
@@ -143,12 +142,12 @@ module _ {w p b : List ℕ} (body : Body w p b) (x : ℕ) (row : x < rowCount w)
           (λ f. gives .used-kept d (rw (first .same-used) (at .is-used d g (sym (use-other body l x row label listed g f) ∙ u))));
     }
 
-pub label-checker : {w p b : List ℕ} (body : Body w p b) (build : Build) (l x : ℕ) (s : State)
+pub label-checker : {w p b : List ℕ} (body : Body w p b) (l x : ℕ) (s : State)
     → x < rowCount w → isLabel w p b 0 x ≡ true → listOf w 0 x ≡ some l → CheckerAt w p b x (s .checker) → ContextAt w p b l x (s .ctx)
-    → CheckerAt w p b (suc x) (resolveAll build w p b x (declare build w p b x s) .checker)
+    → CheckerAt w p b (suc x) (resolveAll w p b x (declare w p b x s) .checker)
 unfolding resolveAll jumpsAt
-label-checker {w} {p} {b} body build l x s row label listed at in-list =
-    let e = declare build w p b x s .checker in
-    let y = resolved-checker body x row label build l listed (s .checker) e (s .ctx) at in-list (placed body x row label build s at) in
-    rw (declare-ctx build w p b x s)
-    (subst (λ (js : List ℕ). CheckerAt w p b (suc x) (through (resolve build w p b x (s .ctx)) js e)) (sym (in-list .jumps-are)) y)
+label-checker {w} {p} {b} body l x s row label listed at in-list =
+    let e = declare w p b x s .checker in
+    let y = resolved-checker body x row label l listed (s .checker) e (s .ctx) at in-list (placed body x row label s at) in
+    rw (declare-ctx w p b x s)
+    (subst (λ (js : List ℕ). CheckerAt w p b (suc x) (through (resolve w p b x (s .ctx)) js e)) (sym (in-list .jumps-are)) y)

@@ -29,7 +29,6 @@ use Rattle.branches.specs.Walk.{bindingAt}
 use Rattle.branches.proofs.CanonRows.{body-end}
 use Rattle.branches.proofs.WalkFaults.{faults-suc}
 use Rattle.branches.proofs.WalkBindings.{at-goto, at-later, at-other, not-later, later-own, binding-same}
-use Rattle.goscript.specs.Build.{Build}
 use Rattle.goscript.specs.Syntax.{ident, lookup}
 use Rattle.goscript.specs.Checker.{Checker, error, label-set-used, record-use}
 use Rattle.goscript.specs.Label.{State, recordLabelUse}
@@ -155,10 +154,10 @@ module _ {w p b : List ℕ} (body : Body w p b) where
           (λ t. at-other w p b (suc x) x o ∙ binding-other w p b 0 x n o m) y
 
       -- a branch bound to the declared label of its name, which stands before it
-      use-recorded : (build : Build) (s : State) (d : ℕ) → declared w p b 0 x ≡ some d → d < x → isBranch (class w x) ≡ true → report w p b 0 x ≡ []
-          → bindingAt w p b (suc x) x ≡ suc d → CheckerAt w p b x (s .checker) → CheckerAt w p b (suc x) (recordLabelUse build w p b x s .checker)
+      use-recorded : (s : State) (d : ℕ) → declared w p b 0 x ≡ some d → d < x → isBranch (class w x) ≡ true → report w p b 0 x ≡ []
+          → bindingAt w p b (suc x) x ≡ suc d → CheckerAt w p b x (s .checker) → CheckerAt w p b (suc x) (recordLabelUse w p b x s .checker)
       unfolding recordLabelUse
-      use-recorded build s d e h t r i y =
+      use-recorded s d e h t r i y =
           rw (found-before body x x d (s .checker) y e h, recordLabelUse) (checker-use x d (s .checker) t r i y)
 
       -- a break or continue with a label
@@ -182,13 +181,13 @@ module _ {w p b : List ℕ} (body : Body w p b) where
             (λ i. rw i (report-continue w p b 0 x break-label has-label v (e ∙ i))))
             (λ t. at-other w p b (suc x) x break-goto ∙ binding-invalid w p b 0 x break-label break-goto v) y
 
-        pub break-valid : (build : Build) (s : State) → validTarget w p b 0 x ≡ true → CheckerAt w p b x (s .checker)
-            → CheckerAt w p b (suc x) (recordLabelUse build w p b x s .checker)
-        break-valid build s v y =
+        pub break-valid : (s : State) → validTarget w p b 0 x ≡ true → CheckerAt w p b x (s .checker)
+            → CheckerAt w p b (suc x) (recordLabelUse w p b x s .checker)
+        break-valid s v y =
             let (t, f, u) = is-valid w p b 0 x v in
             let (h, l) = target-names w p b x t f in
             let (d, i, m) = some-declared w p b 0 x t (omega (arith, body-end body)) l in
-            use-recorded build s d i (omega arith) (break-branch (class w x) break-class) (report-valid w p b 0 x break-label has-label v)
+            use-recorded s d i (omega arith) (break-branch (class w x) break-class) (report-valid w p b 0 x break-label has-label v)
             (at-other w p b (suc x) x break-goto ∙ binding-break w p b 0 x break-label break-goto has-label v ∙ ap word i) y
 
       -- a goto
@@ -196,22 +195,22 @@ module _ {w p b : List ℕ} (body : Body w p b) where
         goto-report : report w p b 0 x ≡ []
         goto-report = report-other w p b 0 x (branch-label w p b 0 x (branch-goto (class w x) k)) (other-labelled w p b 0 x (rw k)) (λ y. clash (cc (y .falls-through)))
 
-        pub goto-bound : (build : Build) (s : State) (d : ℕ) → earlier w p b 0 x ≡ some d → CheckerAt w p b x (s .checker)
-            → CheckerAt w p b (suc x) (recordLabelUse build w p b x s .checker)
-        goto-bound build s d e y =
+        pub goto-bound : (s : State) (d : ℕ) → earlier w p b 0 x ≡ some d → CheckerAt w p b x (s .checker)
+            → CheckerAt w p b (suc x) (recordLabelUse w p b x s .checker)
+        goto-bound s d e y =
             let i = is-earlier w p b 0 x d e in
-            use-recorded build s d (i .0) (i .1) (branch-goto (class w x) k) goto-report (at-goto w p b (suc x) x d k e) y
+            use-recorded s d (i .0) (i .1) (branch-goto (class w x) k) goto-report (at-goto w p b (suc x) x d k e) y
 
         pub goto-waits : (c : Checker) → earlier w p b 0 x ≡ none → CheckerAt w p b x c → CheckerAt w p b (suc x) c
         goto-waits c e y = checker-same x c (branch-label w p b 0 x (branch-goto (class w x) k)) goto-report
             (λ t. at-later w p b (suc x) x k e ∙ ap word (later-own w p b x)) y
 
 -- ---- the rest of the state stays
-module _ (build : Build) (w p b : List ℕ) (x : ℕ) (s : State) where
-  pub uses-blocks : recordLabelUse build w p b x s .blocks ≡ s .blocks
+module _ (w p b : List ℕ) (x : ℕ) (s : State) where
+  pub uses-blocks : recordLabelUse w p b x s .blocks ≡ s .blocks
   unfolding recordLabelUse
   uses-blocks = case-found (lookup w p b (ident w p b x) (s .checker .all)) (λ d e. rw (e, recordLabelUse)) (λ e. rw (e, recordLabelUse))
 
-  pub uses-ctx : recordLabelUse build w p b x s .ctx ≡ s .ctx
+  pub uses-ctx : recordLabelUse w p b x s .ctx ≡ s .ctx
   unfolding recordLabelUse
   uses-ctx = case-found (lookup w p b (ident w p b x) (s .checker .all)) (λ d e. rw (e, recordLabelUse)) (λ e. rw (e, recordLabelUse))

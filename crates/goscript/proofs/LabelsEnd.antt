@@ -51,12 +51,12 @@ use Rattle.goscript.proofs.CheckerRows.{error-none}
 use Rattle.goscript.proofs.LeftJumps.{error-each, Left, binding-end, left-all, left-used}
 
 -- ---- one label of the scope
-module _ (build : Build) (w p b : List ℕ) (d : ℕ) (c : Checker) where
-  label-used : contains d (c .used) ≡ true → unusedLabel build w p b d c ≡ c
+module _ (w p b : List ℕ) (d : ℕ) (c : Checker) where
+  label-used : contains d (c .used) ≡ true → unusedLabel w p b d c ≡ c
   unfolding unusedLabel
   label-used t = rw (t, unusedLabel)
 
-  label-unused : contains d (c .used) ≡ false → unusedLabel build w p b d c ≡ error (fault w 9 d ∷ []) c
+  label-unused : contains d (c .used) ≡ false → unusedLabel w p b d c ≡ error (fault w 9 d ∷ []) c
   unfolding unusedLabel
   label-unused f = rw (f, unusedLabel)
 
@@ -82,17 +82,17 @@ module _ {w p b : List ℕ} (body : Body w p b) (c : Checker) (at : CheckerAt w 
       defined : contains r (c .defs) ≡ (isLabel w p b 0 r && is (declared w p b 0 r) r)
       defined = at .defs-are r ∙ rw (lt-ltb r (rowCount w) h)
 
-  module _ (build : Build) (c′ : Checker) (left : Left w p b c (rowCount w) c′) where
+  module _ (c′ : Checker) (left : Left w p b c (rowCount w) c′) where
     -- ---- the loop over the scope
     nine-turn : (i : ℕ) (c″ : Checker) → c″ ≡ error (nines w p b i) c′
-        → through (unusedLabel build w p b) (ofNumber w p b (rowCount w) i) c″ ≡ error (nines w p b (suc i)) c′
+        → through (unusedLabel w p b) (ofNumber w p b (rowCount w) i) c″ ≡ error (nines w p b (suc i)) c′
     nine-turn i c″ e = case-found (declaredAt w p b 0 (suc i))
-        (λ d q. rw (number-before w p b (rowCount w) i d q (label-at body (suc i) d q .0), through-one (unusedLabel build w p b) d c″) (case-of (used w p b 0 d)
-        (λ t. label-used build w p b d c″ (its-use d ∙ t) ∙ none-more (unused-not w p b 0 (suc i) d q t))
+        (λ d q. rw (number-before w p b (rowCount w) i d q (label-at body (suc i) d q .0), through-one (unusedLabel w p b) d c″) (case-of (used w p b 0 d)
+        (λ t. label-used w p b d c″ (its-use d ∙ t) ∙ none-more (unused-not w p b 0 (suc i) d q t))
         (λ t.
-        label-unused build w p b d c″ (its-use d ∙ t) ∙ ap (error (fault w 9 d ∷ [])) e
+        label-unused w p b d c″ (its-use d ∙ t) ∙ ap (error (fault w 9 d ∷ [])) e
         ∙ error-each c′ (λ k. unused w p b 0 (suc k)) i (fault w 9 d ∷ []) (unused-is w p b 0 (suc i) d q t))))
-        (λ q. rw (number-none w p b (rowCount w) i q, through-none (unusedLabel build w p b) c″) (none-more (unused-none w p b 0 (suc i) q)))
+        (λ q. rw (number-none w p b (rowCount w) i q, through-none (unusedLabel w p b) c″) (none-more (unused-none w p b 0 (suc i) q)))
       where
         its-use : (d : ℕ) → contains d (c″ .used) ≡ used w p b 0 d
         its-use d = ap (λ (s : Checker). contains d (s .used)) e ∙ left-used body c c′ left d
@@ -100,15 +100,15 @@ module _ {w p b : List ℕ} (body : Body w p b) (c : Checker) (at : CheckerAt w 
         none-more : unused w p b 0 (suc i) ≡ [] → c″ ≡ error (nines w p b (suc i)) c′
         none-more u = e ∙ sym (error-none (error (nines w p b i) c′)) ∙ error-each c′ (λ k. unused w p b 0 (suc k)) i [] u
 
-    nines-all : through (unusedLabel build w p b) (c′ .all) c′ ≡ error (nines w p b (pairCount p)) c′
+    nines-all : through (unusedLabel w p b) (c′ .all) c′ ≡ error (nines w p b (pairCount p)) c′
     unfolding allAt
     nines-all =
-        ap (λ (l : List ℕ). through (unusedLabel build w p b) l c′) (ap (λ (s : Checker). s .all) (left .left-is) ∙ at .all-are)
-        ∙ through-each (unusedLabel build w p b) (ofNumber w p b (rowCount w)) (λ i s. s ≡ error (nines w p b i) c′) c′
+        ap (λ (l : List ℕ). through (unusedLabel w p b) l c′) (ap (λ (s : Checker). s .all) (left .left-is) ∙ at .all-are)
+        ∙ through-each (unusedLabel w p b) (ofNumber w p b (rowCount w)) (λ i s. s ≡ error (nines w p b i) c′) c′
         (sym (rw (each-zero (λ k. unused w p b 0 (suc k))) (error-none c′))) (pairCount p) (λ i c″ h e. nine-turn i c″ e)
 
     -- ---- the answers
-    module _ (ended : labels build w p b ≡ error (nines w p b (pairCount p)) c′) where
+    module _ (build : Build) (ended : labels build w p b ≡ error (nines w p b (pairCount p)) c′) where
       same-sheet : sheet build w p b ≡ sheetOf w p b 0
       unfolding sheet sheetOf faultsAt
       same-sheet =
@@ -126,18 +126,18 @@ module _ {w p b : List ℕ} (body : Body w p b) (c : Checker) (at : CheckerAt w 
           (ap (λ (s : Checker). bound s r) (ended ∙ ap (error (nines w p b (pairCount p))) (left .left-is)) ∙ bound-is r (omega arith)))
 
 -- the checker after the loop over the jumps
-abbrev afterJumps : Build → List ℕ → List ℕ → List ℕ → Outgoing → Checker
-afterJumps build w p b o = through (leftJump build w p b) (o .fwd-jumps) (o .checker)
+abbrev afterJumps : List ℕ → List ℕ → List ℕ → Outgoing → Checker
+afterJumps w p b o = through (leftJump w p b) (o .fwd-jumps) (o .checker)
 
 pub labels-end : {w p b : List ℕ} (body : Body w p b) (build : Build) (o : Outgoing)
     → o ≡ block-branches build w p b (size w 0 + size w 0) [] none (list w 0) newChecker
     → CheckerAt w p b (rowCount w) (o .checker) → o .fwd-jumps ≡ jumpsAt w p b 0 (rowCount w) → SameLabels build w p b
 unfolding labels
 labels-end {w} {p} {b} body build o e at jumps =
-    let left : Left w p b (o .checker) (rowCount w) (afterJumps build w p b o) = rw jumps (left-all body (o .checker) at build) in
-    let ended : labels build w p b ≡ error (nines w p b (pairCount p)) (afterJumps build w p b o) =
-    ap (λ (q : Outgoing). through (unusedLabel build w p b) (afterJumps build w p b q .all) (afterJumps build w p b q)) (sym e)
-    ∙ nines-all body (o .checker) at build (afterJumps build w p b o) left in (
-      same-sheet body (o .checker) at build (afterJumps build w p b o) left ended,
-      same-bindings body (o .checker) at build (afterJumps build w p b o) left ended,
+    let left : Left w p b (o .checker) (rowCount w) (afterJumps w p b o) = rw jumps (left-all body (o .checker) at) in
+    let ended : labels build w p b ≡ error (nines w p b (pairCount p)) (afterJumps w p b o) =
+    ap (λ (q : Outgoing). through (unusedLabel w p b) (afterJumps w p b q .all) (afterJumps w p b q)) (sym e)
+    ∙ nines-all body (o .checker) at (afterJumps w p b o) left in (
+      same-sheet body (o .checker) at (afterJumps w p b o) left build ended,
+      same-bindings body (o .checker) at (afterJumps w p b o) left build ended,
     )

@@ -128,14 +128,14 @@ module _ (build : Build) {w p b : List ℕ} (body : Body w p b) (l x : ℕ) (row
     branch-walked s′ e i f c = leaf s′ h e (ap (λ (k : Context). k .lstmt) i) c (rw i (context-same l x (s .ctx) no-label f (λ e i. d e) (a .ctx))) a no-label
 
     -- without a label nothing does
-    unlabelled-walked : (s′ : State) → (class w x ≡ goto → ⊥) → name w x ≡ 0 → Walked build w p b l x s (labelled build w p b x s′ s)
-    unlabelled-walked s′ n z = rw (has-none build w p b x s s′ z)
+    unlabelled-walked : (s′ : State) → (class w x ≡ goto → ⊥) → name w x ≡ 0 → Walked build w p b l x s (labelled w x s′ s)
+    unlabelled-walked s′ n z = rw (has-none w p b x s s′ z)
         (branch-walked s refl refl (pending-other w p b (suc x) x n) (unlabelled body x row (s .checker) t z (a .checker)))
 
   pub fallthrough-walked : (f : ℕ) → class w x ≡ fallthrough → At w p b l x s → Walked build w p b l x s (stmt-branches build w p b (suc f) x s)
   fallthrough-walked f e a = rw (at-fallthrough build w p b f x s e) (elim (ℕ-discrete (name w x) 0) [
     | yes z ↦ unlabelled-walked (rw e) (rw e) (λ c. clash (cc)) a _ (λ c. clash (cc)) z
-    | no n ↦ rw (has-label build w p b x s (in-checker (error (fault w 6 x ∷ [])) s) n)
+    | no n ↦ rw (has-label w p b x s (in-checker (error (fault w 6 x ∷ [])) s) n)
         (branch-walked (rw e) (rw e) (λ c. clash (cc)) a (in-checker (error (fault w 6 x ∷ [])) s) refl refl (pending-other w p b (suc x) x (λ c. clash (cc)))
         (fallthrough-labelled body x (s .checker) e (omega arith) (a .checker)))
   ])
@@ -143,18 +143,18 @@ module _ (build : Build) {w p b : List ℕ} (body : Body w p b) (l x : ℕ) (row
   -- a goto binds to what it sees, or waits
   pub goto-walked : (f : ℕ) → class w x ≡ goto → l < x → x < end w l → At w p b l x s → Walked build w p b l x s (stmt-branches build w p b (suc f) x s)
   goto-walked f e h m a =
-      rw (at-goto build w p b f x s e, has-label build w p b x s (gotoBranch build w p b x s) (λ z. omega (arith, goto-named body x row e)))
+      rw (at-goto build w p b f x s e, has-label w p b x s (gotoBranch w p b x s) (λ z. omega (arith, goto-named body x row e)))
       (case-found (earlier w p b 0 x) bound waits)
     where
       sees : goto-target w p b (ident w p b x) (s .blocks) ≡ earlier w p b 0 x
       sees = a .blocks .gotos x h (omega arith) m ∙ visible-earlier w p b x
 
-      bound : (t : ℕ) → earlier w p b 0 x ≡ some t → Walked build w p b l x s (gotoBranch build w p b x s)
-      bound t i = rw (goto-used build w p b x s t (sees ∙ i)) (branch-walked (rw e) (rw e) (λ c. clash (cc)) a (recordLabelUse build w p b x s)
-          (uses-blocks build w p b x s) (uses-ctx build w p b x s) (pending-earlier w p b (suc x) x t i) (goto-bound body x row e build s t i (a .checker)))
+      bound : (t : ℕ) → earlier w p b 0 x ≡ some t → Walked build w p b l x s (gotoBranch w p b x s)
+      bound t i = rw (goto-used w p b x s t (sees ∙ i)) (branch-walked (rw e) (rw e) (λ c. clash (cc)) a (recordLabelUse w p b x s)
+          (uses-blocks w p b x s) (uses-ctx w p b x s) (pending-earlier w p b (suc x) x t i) (goto-bound body x row e s t i (a .checker)))
 
-      waits : earlier w p b 0 x ≡ none → Walked build w p b l x s (gotoBranch build w p b x s)
-      waits i = rw (goto-pushed build w p b x s (sees ∙ i)) (leaf (in-ctx (with-jumps (s .ctx .fwd-jumps ++ x ∷ [])) s) (rw e) refl refl
+      waits : earlier w p b 0 x ≡ none → Walked build w p b l x s (gotoBranch w p b x s)
+      waits i = rw (goto-pushed w p b x s (sees ∙ i)) (leaf (in-ctx (with-jumps (s .ctx .fwd-jumps ++ x ∷ [])) s) (rw e) refl refl
           (goto-waits body x row e (s .checker) i (a .checker)) (context-waits l x (s .ctx) h e i (a .ctx)) a (no-label (rw e) (rw e) (λ c. clash (cc)) a))
 
   -- a break or continue is bound where its target is of the kinds that it needs
@@ -171,14 +171,14 @@ module _ (build : Build) {w p b : List ℕ} (body : Body w p b) (l x : ℕ) (row
         (λ g f. rw f (sym (valid-found w p b 0 x g f ∙ ap (λ (c : Class). needs c (class w (suc g))) e ∙ same (class w (suc g)))))
         (λ f. rw f (sym (valid-none w p b 0 x f)))
 
-    break-walked : Walked build w p b l x s (labelled build w p b x (labelledBreak build w p b kinds (breakCode k) x s) s)
+    break-walked : Walked build w p b l x s (labelled w x (labelledBreak w p b kinds (breakCode k) x s) s)
     break-walked = elim (ℕ-discrete (name w x) 0) [
       | yes z ↦ unlabelled-walked t h d a _ n z
-      | no o ↦ rw (has-label build w p b x s (labelledBreak build w p b kinds (breakCode k) x s) o) (case-of (validTarget w p b 0 x)
-          (λ v. rw (break-used build w p b x s kinds (breakCode k) (valid-same (omega arith) ∙ v)) (branch-walked t h d a (recordLabelUse build w p b x s)
-          (uses-blocks build w p b x s) (uses-ctx build w p b x s) (pending-other w p b (suc x) x n)
-          (break-valid body x row k e breaks (omega arith) build s v (a .checker))))
-          (λ v. rw (break-reported build w p b x s kinds (breakCode k) (valid-same (omega arith) ∙ v)) (branch-walked t h d a
+      | no o ↦ rw (has-label w p b x s (labelledBreak w p b kinds (breakCode k) x s) o) (case-of (validTarget w p b 0 x)
+          (λ v. rw (break-used w p b x s kinds (breakCode k) (valid-same (omega arith) ∙ v)) (branch-walked t h d a (recordLabelUse w p b x s)
+          (uses-blocks w p b x s) (uses-ctx w p b x s) (pending-other w p b (suc x) x n)
+          (break-valid body x row k e breaks (omega arith) s v (a .checker))))
+          (λ v. rw (break-reported w p b x s kinds (breakCode k) (valid-same (omega arith) ∙ v)) (branch-walked t h d a
           (in-checker (error (fault w (breakCode k) x ∷ [])) s) refl refl (pending-other w p b (suc x) x n)
           (break-invalid body x row k e breaks (omega arith) (s .checker) v (a .checker)))))
     ]

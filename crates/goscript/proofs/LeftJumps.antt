@@ -26,7 +26,6 @@ use Rattle.rules.proofs.BindingRows.{branch-label, binding-goto}
 use Rattle.rules.proofs.SheetRows.{unresolved-not, unresolved-declared, unresolved-none, uses, uses-binding, uses-pending, uses-cases, used-is, is-used}
 use Rattle.branches.specs.Walk.{bindingAt}
 use Rattle.branches.proofs.CanonRows.{body-end}
-use Rattle.goscript.specs.Build.{Build}
 use Rattle.goscript.specs.Syntax.{through, contains, ident, lookup}
 use Rattle.goscript.specs.Checker.{Checker, error, label-set-used}
 use Rattle.goscript.specs.Label.{leftJump}
@@ -55,12 +54,12 @@ module _ (w p b : List ℕ) (x g : ℕ) where
       (λ t. let z : 0 ≡ suc d = rw (t, useAt) at e in absurd (omega arith))
 
 -- ---- one jump
-module _ (build : Build) (w p b : List ℕ) (g : ℕ) (c : Checker) where
-  left-declared : (d : ℕ) → lookup w p b (ident w p b g) (c .all) ≡ some d → leftJump build w p b g c ≡ error (fault w 7 g ∷ []) (label-set-used d c)
+module _ (w p b : List ℕ) (g : ℕ) (c : Checker) where
+  left-declared : (d : ℕ) → lookup w p b (ident w p b g) (c .all) ≡ some d → leftJump w p b g c ≡ error (fault w 7 g ∷ []) (label-set-used d c)
   unfolding leftJump
   left-declared d e = rw (e, leftJump)
 
-  left-none : lookup w p b (ident w p b g) (c .all) ≡ none → leftJump build w p b g c ≡ error (fault w 8 g ∷ []) c
+  left-none : lookup w p b (ident w p b g) (c .all) ≡ none → leftJump w p b g c ≡ error (fault w 8 g ∷ []) c
   unfolding leftJump
   left-none e = rw (e, leftJump)
 
@@ -153,19 +152,19 @@ module _ {w p b : List ℕ} (body : Body w p b) where
           let all-rows = body-end body in
           looked ∙ before-is (rowCount w) d (declared w p b 0 n) e (omega (arith, is-declared w p b 0 n d e .0))
 
-      jump-left : (build : Build) → pending w p b 0 (rowCount w) n ≡ true → Left w p b c (suc n) (leftJump build w p b n c′)
-      jump-left build q = case-found (declared w p b 0 n)
-          (λ d e. rw (left-declared build w p b n c′ d (looked-declared d e)) (left-marked d q e))
-          (λ e. rw (left-none build w p b n c′ (looked ∙ rw e))
+      jump-left : pending w p b 0 (rowCount w) n ≡ true → Left w p b c (suc n) (leftJump w p b n c′)
+      jump-left q = case-found (declared w p b 0 n)
+          (λ d e. rw (left-declared w p b n c′ d (looked-declared d e)) (left-marked d q e))
+          (λ e. rw (left-none w p b n c′ (looked ∙ rw e))
           (left-same (fault w 8 n ∷ []) (unresolved-none w p b 0 n (pending-end n ∙ q) e) (λ d r f. clash (cc))))
 
       none-left : pending w p b 0 (rowCount w) n ≡ false → Left w p b c (suc n) c′
       none-left q = rw (error-none c′) at (left-same [] (unresolved-not w p b 0 n (pending-end n ∙ q)) (λ d r f. clash (cc)))
 
-    pub left-all : (build : Build) → Left w p b c (rowCount w) (through (leftJump build w p b) (jumpsAt w p b 0 (rowCount w)) c)
+    pub left-all : Left w p b c (rowCount w) (through (leftJump w p b) (jumpsAt w p b 0 (rowCount w)) c)
     unfolding jumpsAt
-    left-all build = through-passing (leftJump build w p b) (waits w p b 0 (rowCount w)) (Left w p b c) c left-start (rowCount w)
-        (λ n c′ row t left. jump-left n c′ row left build (sym (left-pending n) ∙ t))
+    left-all = through-passing (leftJump w p b) (waits w p b 0 (rowCount w)) (Left w p b c) c left-start (rowCount w)
+        (λ n c′ row t left. jump-left n c′ row left (sym (left-pending n) ∙ t))
         (λ n c′ row f left. none-left n c′ row left (sym (left-pending n) ∙ f))
 
   -- ---- what is used then

@@ -13,7 +13,6 @@ use Rattle.rules.specs.Names.{sameBytes}
 use Rattle.rules.specs.Labels.{Fault, each, only}
 use Rattle.rules.proofs.Test.{case-of, clash}
 use Rattle.rules.proofs.Each.{each-zero, each-suc}
-use Rattle.goscript.specs.Build.{Build}
 use Rattle.goscript.specs.Syntax.{through, contains, ident}
 use Rattle.goscript.specs.Context.{Context, jumps-over-var-decl}
 use Rattle.goscript.specs.Checker.{Checker, error, label-set-used, record-use, usedBy}
@@ -47,16 +46,16 @@ module _ (w p b : List ℕ) (s : ℕ) (ctx : Context) (Q : ℕ → Bool) where
   pub reports-not : (g : ℕ) → resolves g ≡ false → reports g ≡ []
   reports-not g f = rw (f, reports)
 
-module _ (build : Build) (w p b : List ℕ) (s : ℕ) (ctx : Context) where
+module _ (w p b : List ℕ) (s : ℕ) (ctx : Context) where
   -- ---- one jump
-  resolve-not : (g : ℕ) (c : Checker) → sameAs w p b s g ≡ false → resolve build w p b s ctx g c ≡ c
+  resolve-not : (g : ℕ) (c : Checker) → sameAs w p b s g ≡ false → resolve w p b s ctx g c ≡ c
   unfolding resolve
   resolve-not g c f = rw (f, resolve)
 
   abbrev resolvedAt : ℕ → Checker → Checker
   resolvedAt g c = error (overReport w ctx g) (record-use g s (label-set-used s c))
 
-  resolve-is : (g : ℕ) (c : Checker) → sameAs w p b s g ≡ true → resolve build w p b s ctx g c ≡ resolvedAt g c
+  resolve-is : (g : ℕ) (c : Checker) → sameAs w p b s g ≡ true → resolve w p b s ctx g c ≡ resolvedAt g c
   unfolding resolve
   resolve-is g c t = case-of (jumps-over-var-decl ctx g)
       (λ u. rw (t, u, resolve))
@@ -141,8 +140,8 @@ module _ (build : Build) (w p b : List ℕ) (s : ℕ) (ctx : Context) where
       ];
     }
 
-    pub resolved : (n : ℕ) → Resolved n (through (resolve build w p b s ctx) (passing Q n) c)
-    resolved n = through-passing (resolve build w p b s ctx) Q Resolved c start n
+    pub resolved : (n : ℕ) → Resolved n (through (resolve w p b s ctx) (passing Q n) c)
+    resolved n = through-passing (resolve w p b s ctx) Q Resolved c start n
         (λ k e h t r. case-of (sameAs w p b s k)
         (λ u. rw (resolve-is k e u) (taken-step k e (rw (t, u)) r))
         (λ u. rw (resolve-not k e u) (other-step k e (rw (t, u)) r)))

@@ -211,15 +211,15 @@ module _ (build : Build) {w p b : List ℕ} (body : Body w p b) (domain : Domain
         let v : isLabel w p b 0 x ≡ true = label-is w p b 0 x (record { row = (omega arith, omega (arith, body-end body)); labels = c; not-blank = t }) in
         let listed = its-list body home row n (rw c) in
         rw (at-label build w p b f x s c t)
-        (labeled-walked (entered build w p b x s)
+        (labeled-walked (entered w p b x s)
         (item i (record {
           stacked = st;
           holds = n .holds;
           fit = n .fit;
           on-item = under x (n .stacked .upto) (omega arith) v (λ k y z. absurd (omega arith))
-              (entered-current build body l x row s v listed a);
+              (entered-current body l x row s v listed a);
         }))
-        (entered-state build body l x row s v listed a) (entered-targets build body l x row s v listed a) (inr (v, entered-current build body l x row s v listed a))))
+        (entered-state body l x row s v listed a) (entered-targets body l x row s v listed a) (inr (v, entered-current body l x row s v listed a))))
       where
         further : (i : ℕ) → isLabel w p b 0 x ≡ false → OnItem w p b l i x s → OnItem w p b l i (suc x) s
         further i v (bare e u) = bare (λ k h m. elim (ℕ-discrete k x) [ yes y ↦ rw y v | no o ↦ e k h (omega arith) ]) (λ g h m t. u g (omega arith) m t)

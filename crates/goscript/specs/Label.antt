@@ -82,7 +82,11 @@ outgoing s = record { checker = s .checker; fwd-jumps = s .ctx .fwd-jumps }
 abbrev pub valid : List ℕ → (Class → Bool) → Option ℕ → Bool
 valid w kinds target = elim target [ none ↦ false | some t ↦ kinds (class w (suc t)) ]
 
-module _ (build : Build) (w p b : List ℕ) where
+-- `if let Some(label) = bs.label`
+abbrev pub labelled : List ℕ → ℕ → State → State → State
+labelled w s with-label without = elim (eqb (name w s) 0) [ true ↦ without | false ↦ with-label ]
+
+module _ (w p b : List ℕ) where
   -- ---- the parts of `stmt_branches`
 
   -- Labeled: a new label object, or an error at both if there is one of its name
@@ -131,10 +135,20 @@ module _ (build : Build) (w p b : List ℕ) where
     | some t ↦ recordLabelUse s state
   ]
 
-  -- `if let Some(label) = bs.label`
-  abbrev pub labelled : ℕ → State → State → State
-  labelled s with-label without = elim (eqb (name w s) 0) [ true ↦ without | false ↦ with-label ]
+  -- ---- the parts of `labels`
 
+  -- a forward jump that is left: into a block, which avoids another error, or not declared
+  unfoldable pub leftJump : ℕ → Checker → Checker
+  leftJump jump c = elim (lookup w p b (ident w p b jump) (c .all)) [
+    | some alt ↦ error (fault w 7 jump ∷ []) (label-set-used alt c)
+    | none ↦ error (fault w 8 jump ∷ []) c
+  ]
+
+  -- declared but not used
+  unfoldable pub unusedLabel : ℕ → Checker → Checker
+  unusedLabel o c = elim (contains o (c .used)) [ true ↦ c | false ↦ error (fault w 9 o ∷ []) c ]
+
+module _ (build : Build) (w p b : List ℕ) where
   unfoldable mutual
     -- `block_branches`: a new block and a new context for the list
     pub block-branches : ℕ → List Block → Option ℕ → List ℕ → Checker → Outgoing
@@ -148,11 +162,11 @@ module _ (build : Build) (w p b : List ℕ) where
     stmt-branches (suc f) s state = elim (class w s) [
       | declaration ↦ in-ctx (record-var-decl (position w s)) state
       | labeled ↦ afterLabeled build (state .ctx .lstmt)
-          (stmt-branches f (suc s) (elim (isBlank p b (name w s)) [ true ↦ state | false ↦ resolveAll s (declare s state) ]))
-      | break ↦ labelled s (labelledBreak isBreakable 4 s state) state
-      | continue ↦ labelled s (labelledBreak isLoop 5 s state) state
-      | goto ↦ labelled s (gotoBranch s state) state
-      | fallthrough ↦ labelled s (in-checker (error (fault w 6 s ∷ [])) state) state
+          (stmt-branches f (suc s) (elim (isBlank p b (name w s)) [ true ↦ state | false ↦ resolveAll w p b s (declare w p b s state) ]))
+      | break ↦ labelled w s (labelledBreak w p b isBreakable 4 s state) state
+      | continue ↦ labelled w s (labelledBreak w p b isLoop 5 s state) state
+      | goto ↦ labelled w s (gotoBranch w p b s state) state
+      | fallthrough ↦ labelled w s (in-checker (error (fault w 6 s ∷ [])) state) state
       | block ↦ append state (block-branches f (state .blocks) (state .ctx .lstmt) (list w s) (state .checker))
       | caseBlock ↦ append state (block-branches f (state .blocks) (state .ctx .lstmt) (list w s) (state .checker))
       | commBlock ↦ append state (block-branches f (state .blocks) (state .ctx .lstmt) (list w s) (state .checker))
@@ -172,23 +186,12 @@ module _ (build : Build) (w p b : List ℕ) where
       | stop ↦ state
     ]
 
-  -- a forward jump that is left: into a block, which avoids another error, or not declared
-  unfoldable pub leftJump : ℕ → Checker → Checker
-  leftJump jump c = elim (lookup w p b (ident w p b jump) (c .all)) [
-    | some alt ↦ error (fault w 7 jump ∷ []) (label-set-used alt c)
-    | none ↦ error (fault w 8 jump ∷ []) c
-  ]
-
-  -- declared but not used
-  unfoldable pub unusedLabel : ℕ → Checker → Checker
-  unusedLabel o c = elim (contains o (c .used)) [ true ↦ c | false ↦ error (fault w 9 o ∷ []) c ]
-
   -- `labels`; a level takes a call for the statement and one for its list, so twice the rows are enough
   unfoldable pub labels : Checker
   labels =
       let o = block-branches (size w 0 + size w 0) [] none (list w 0) newChecker in
-      let c = through leftJump (o .fwd-jumps) (o .checker) in
-      through unusedLabel (c .all) c
+      let c = through (leftJump w p b) (o .fwd-jumps) (o .checker) in
+      through (unusedLabel w p b) (c .all) c
 
   -- ---- as the label call gives them
 
