@@ -53,16 +53,6 @@ module _ (w p b : List ℕ) (x g : ℕ) where
       (λ t. let y = and-true (ltb g x) (isBranch (class w g)) t in (ltb-true g x (y .0), y .1, rw (t, useAt) at e))
       (λ t. let z : 0 ≡ suc d = rw (t, useAt) at e in absurd (omega arith))
 
--- ---- one jump
-module _ (w p b : List ℕ) (g : ℕ) (c : Checker) where
-  left-declared : (d : ℕ) → lookup w p b (ident w p b g) (c .all) ≡ some d → leftJump w p b g c ≡ error (fault w 7 g ∷ []) (label-set-used d c)
-  unfolding leftJump
-  left-declared d e = rw (e, leftJump)
-
-  left-none : lookup w p b (ident w p b g) (c .all) ≡ none → leftJump w p b g c ≡ error (fault w 8 g ∷ []) c
-  unfolding leftJump
-  left-none e = rw (e, leftJump)
-
 module _ (w p b : List ℕ) where
   -- the checker c of the walk's end, when the jumps before row n are done
   pub record Left (c : Checker) (n : ℕ) (c′ : Checker) : Type 0 where
@@ -152,10 +142,15 @@ module _ {w p b : List ℕ} (body : Body w p b) where
           let all-rows = body-end body in
           looked ∙ before-is (rowCount w) d (declared w p b 0 n) e (omega (arith, is-declared w p b 0 n d e .0))
 
+      looked-none : declared w p b 0 n ≡ none → lookup w p b (ident w p b n) (c′ .all) ≡ none
+      looked-none e = looked ∙ ap (before (rowCount w)) e
+
+      -- a jump marks the label that its 7 names
       jump-left : pending w p b 0 (rowCount w) n ≡ true → Left w p b c (suc n) (leftJump w p b n c′)
+      unfolding leftJump
       jump-left q = case-found (declared w p b 0 n)
-          (λ d e. rw (left-declared w p b n c′ d (looked-declared d e)) (left-marked d q e))
-          (λ e. rw (left-none w p b n c′ (looked ∙ rw e))
+          (λ d e. rw (looked-declared d e, leftJump) (left-marked d q e))
+          (λ e. rw (looked-none e, leftJump)
           (left-same (fault w 8 n ∷ []) (unresolved-none w p b 0 n (pending-end n ∙ q) e) (λ d r f. clash (cc))))
 
       none-left : pending w p b 0 (rowCount w) n ≡ false → Left w p b c (suc n) c′
