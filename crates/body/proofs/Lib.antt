@@ -1,2 +1,4 @@
 pub mod Deeper
+pub mod Items
+pub mod Parents
 pub mod Passing

@@ -27,8 +27,12 @@ pub right-size : (w : List ℕ) (r : ℕ) → 0 < size w r → end w r ≤ rowCo
 unfolding badSize
 right-size w r z h = rw (ne-eqb (size w r) 0 (λ f. omega arith), le-ltb (rowCount w) (end w r) h, badSize)
 
+-- the children of the row fit
+abbrev pub Fit : List ℕ → ℕ → Type 0
+Fit w r = childrenFit (size w r) w (holding (class w r)) (end w r) 0 (suc r) ≡ true
+
 -- the shape of a row whose children fit
-pub right-shape : (w : List ℕ) (r : ℕ) → (r ≡ 0 → isBody w ≡ true) → childrenFit (size w r) w (holding (class w r)) (end w r) 0 (suc r) ≡ true → badShape w r ≡ false
+pub right-shape : (w : List ℕ) (r : ℕ) → (r ≡ 0 → isBody w ≡ true) → Fit w r → badShape w r ≡ false
 right-shape w r b f = not-true (badShape w r) (shape-fits w r b ∙ f)
 
 -- the rows from b on, before c, are right and end at or before c
@@ -43,29 +47,17 @@ none-passed w p b = record { right = λ k l m. absurd (omega arith); inside = λ
 pub never : {G : Type 0} → false ≡ true → G
 never e = absurd (clash (cc))
 
--- past the last child of the row r, of size s as the code read it
-pub all-passed : {w p : List ℕ} {r d : ℕ} {h : Holding} → Reached w r h d → {s : ℕ} → s ≡ size w r → {c : ℕ} → Passed w p (r + 1) c → c ≡ r + s
-    → childrenFit (size w r) w h (end w r) 0 (suc r) ≡ true → RightBelow w p r
-all-passed {w} {p} {r} a q x e f =
-    record {
-      right = λ k l m. x .right k (omega arith) (omega arith);
-      inside = λ k l m. omega (arith, x .inside k (omega arith) (omega arith));
-      children = subst (λ (g : Holding). childrenFit (size w r) w g (end w r) 0 (suc r) ≡ true) (a .holds) f;
-    }
-
 -- at the row c, which is allowed as child number i of the row r
-pub record Turn (w p : List ℕ) (h : Holding) (d r s i c : ℕ) : Type 0 where
+pub record Turn (w p : List ℕ) (h : Holding) (d r i c : ℕ) : Type 0 where
   pub reached : Reached w r h d
-  pub less-deep : d < 100
-  pub size-is : s ≡ size w r
-  pub walk : Walk w h (r + s) (r + 1) i c
+  pub walk : Walk w h (end w r) (r + 1) i c
   pub passed : Passed w p (r + 1) c
-  pub not-ended : c < r + s
-  pub child : AllowedChild w p h (r + s) i c
+  pub not-ended : c < end w r
+  pub child : AllowedChild w p h d (end w r) i c
 
-module _ {w p : List ℕ} {h : Holding} {d r s i c : ℕ} (a : Turn w p h d r s i c) where
+module _ {w p : List ℕ} {h : Holding} {d r i c : ℕ} (a : Turn w p h d r i c) where
   pub child-known : (c < rowCount w) × DetailedTo w c
-  child-known = (omega (arith, a .reached .within), details)
+  child-known = (omega (arith, a .reached .within, a .not-ended), details)
     where
       details : DetailedTo w c
       details k b = elim (ℕ-discrete k c) [
@@ -77,71 +69,62 @@ module _ {w p : List ℕ} {h : Holding} {d r s i c : ℕ} (a : Turn w p h d r s 
             ]
       ]
 
+  pub child-small : end w c ≤ 2000
+  child-small = omega (arith, a .child .within, a .reached .within, a .reached .most-rows)
+
   child-depth : depth w c ≤ d + 1
   child-depth =
       let l = a .walk .low in
       omega (arith, deeper w r c (omega arith) (λ k b o. a .passed .inside k (omega arith) o), a .reached .shallow)
 
-  -- the walk goes on through the rows below the child, of which there are fewer
-  pub child-reached : {t : ℕ} → size w r ≡ t → {j : Holding} → j ≡ holding (class w c) → (size w c < t) × Reached w c j (d + 1)
-  child-reached v o =
+  -- what is known of the child before the walk goes through the rows below it
+  pub child-reached : (size w c ≡ 1 → ⊥) → {j : Holding} → j ≡ holding (class w c) → {g : ℕ} → g ≡ d + 1 → Reached w c j g
+  child-reached n o q =
+      let b = child-known in
+      record {
+        row = b .0;
+        most-rows = a .reached .most-rows;
+        some-rows = a .child .some-rows;
+        within = omega (arith, a .child .within, a .reached .within);
+        details = b .1;
+        holds = o;
+        shallow = omega (arith, child-depth);
+        deepest = omega (arith, a .child .below .room n);
+      }
+
+  -- the child, once its children fit
+  pub child-right : Fit w c → Right w p c
+  child-right f =
       let l = a .walk .low in
-      let u = a .size-is in
-      let m = a .reached .within in
-      let f = a .child .within in
-      let b = child-known in (
-        omega arith,
-        record {
-          row = b .0;
-          most-rows = a .reached .most-rows;
-          some-rows = a .child .some-rows;
-          within = omega arith;
-          details = b .1;
-          holds = o;
-          shallow = child-depth;
-          deepest = omega (arith, a .less-deep);
-        },
-      )
+      record {
+        allowed = a .child .allowed;
+        sized = right-size w c (a .child .some-rows) (omega (arith, a .child .within, a .reached .within));
+        shaped = right-shape w c (λ y. absurd (omega arith)) f;
+        shallow = omega (arith, child-depth, a .reached .deepest);
+      }
 
-  -- n is the child's size as the code read it
-  module _ {n : ℕ} (e : n ≡ size w c) where
-    pub next-small : c + n ≤ 2000
-    next-small = omega (arith, a .child .within, a .size-is, a .reached .within, a .reached .most-rows)
+  pub child-walked : Walk w h (end w r) (r + 1) (i + 1) (end w c)
+  child-walked = next w h r refl (a .walk) (a .not-ended) (a .child .may-hold) (a .child .some-rows) refl (a .child .within)
 
-    -- the child, once the rows below it are right
-    module _ (o : RightBelow w p c) where
-      child-right : Right w p c
-      child-right =
-          let l = a .walk .low in
-          let u = a .size-is in
-          record {
-            allowed = a .child .allowed;
-            sized = right-size w c (a .child .some-rows) (omega (arith, a .child .within, a .reached .within));
-            shaped = right-shape w c (λ y. absurd (omega arith)) (o .children);
-            shallow = omega (arith, child-depth, a .less-deep);
-          }
+  -- the rows before the next child, once those below this one are right
+  pub child-passed : RightBelow w p c → Passed w p (r + 1) (end w c)
+  child-passed o = record { right = right; inside = inside }
+    where
+      right : (k : ℕ) → r + 1 ≤ k → k < end w c → Right w p k
+      right k i j = elim (ℕ-discrete k c) [
+        | yes y ↦ subst (λ (k : ℕ). Right w p k) (sym y) (child-right (o .children))
+        | no v ↦ elim (decLt k c) [ yes y ↦ a .passed .right k i y | no y ↦ o .right k (omega arith) j ]
+      ]
 
-      pub child-passed : {x : ℕ} → x ≡ c + n → Walk w h (r + s) (r + 1) (i + 1) x × Passed w p (r + 1) x
-      child-passed q = rw q (
-        next w h r (a .size-is) (a .walk) (a .not-ended) (a .child .may-hold) (a .child .some-rows) e (omega (arith, a .child .within)),
-        record { right = right; inside = inside },
-      )
-        where
-          right : (k : ℕ) → r + 1 ≤ k → k < c + n → Right w p k
-          right k i j = elim (ℕ-discrete k c) [
-            | yes y ↦ subst (λ (k : ℕ). Right w p k) (sym y) child-right
-            | no v ↦ elim (decLt k c) [ yes y ↦ a .passed .right k i y | no y ↦ o .right k (omega arith) (omega arith) ]
-          ]
-
-          inside : (k : ℕ) → r + 1 ≤ k → k < c + n → end w k ≤ c + n
-          inside k i j = elim (ℕ-discrete k c) [
-            | yes y ↦ rw y (omega arith)
-            | no v ↦
-                elim (decLt k c) [
-                  | yes y ↦ omega (arith, a .passed .inside k i y)
-                  | no y ↦ omega (arith, o .inside k (omega arith) (omega arith))
-                ]
-          ]
+      inside : (k : ℕ) → r + 1 ≤ k → k < end w c → end w k ≤ end w c
+      inside k i j = elim (ℕ-discrete k c) [
+        | yes y ↦ rw y (omega arith)
+        | no v ↦
+            elim (decLt k c) [
+              | yes y ↦ omega (arith, a .passed .inside k i y)
+              | no y ↦ o .inside k (omega arith) j
+            ]
+      ]
 
 -- a Block needs no children whatever it is the Block of
 following-needs : (b c : Class) → atLeast (holding (following b c)) ≡ atLeast (holding c)
@@ -154,17 +137,19 @@ unfolding class
 class-needs w zero = refl
 class-needs w (suc q) = following-needs (base w q) (base w (suc q))
 
--- a row of size 1, of whose kind k `needs_children` said no
-pub leaf-below : (w p : List ℕ) (c : ℕ) → detailAllowed (kind w c) (detail w c) ≡ true → {k : ℕ} {t : Bool} → k ≡ kind w c
-    → ((d : ℕ) → detailAllowed k d ≡ true → t ≡ ltb 0 (atLeast (holding (classOf k d)))) → t ≡ false
-    → {n : ℕ} → n ≡ size w c → n ≡ 1 → RightBelow w p c
+-- a row of whose kind k `needs_children` said no
+pub needs-none : (w : List ℕ) (c : ℕ) → detailAllowed (kind w c) (detail w c) ≡ true → {k : ℕ} {t : Bool} → k ≡ kind w c
+    → ((d : ℕ) → detailAllowed k d ≡ true → t ≡ ltb 0 (atLeast (holding (classOf k d)))) → t ≡ false → atLeast (holding (base w c)) ≡ 0
 unfolding base
-leaf-below w p c a q f z e y =
-    let s : size w c ≡ 1 = sym e ∙ y in
+needs-none w c a q f z =
     let l : ltb 0 (atLeast (holding (base w c))) ≡ false =
     sym (f (detail w c) (rw q a) ∙ ap (λ (x : ℕ). ltb 0 (atLeast (holding (classOf x (detail w c))))) q) ∙ z in
-    let b : leb (atLeast (holding (class w c))) 0 ≡ true = le-leb (atLeast (holding (class w c))) 0
-    (omega (arith, ltb-false 0 (atLeast (holding (base w c))) l, class-needs w c)) in
+    omega (arith, ltb-false 0 (atLeast (holding (base w c))) l)
+
+-- a row of size 1 that needs no children
+pub leaf-below : (w p : List ℕ) (c : ℕ) → size w c ≡ 1 → atLeast (holding (base w c)) ≡ 0 → RightBelow w p c
+leaf-below w p c s z =
+    let b : leb (atLeast (holding (class w c))) 0 ≡ true = le-leb (atLeast (holding (class w c))) 0 (omega (arith, class-needs w c)) in
     record {
       right = λ k l i. absurd (omega arith);
       inside = λ k l i. absurd (omega arith);

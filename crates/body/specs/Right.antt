@@ -6,7 +6,7 @@ use mathlib.Core.List.{List}
 use Prim.Native.Nat.{ℕ, suc, _≤_, _<_}
 use Rattle.rules.specs.Rows.{rowCount, size, end, depth}
 use Rattle.rules.specs.Class.{base, class}
-use Rattle.rules.specs.Refusals.{Holding, holding, mayHold, childrenFit, badRow, badSize, badShape}
+use Rattle.rules.specs.Refusals.{Holding, holding, mayHold, atLeast, childrenFit, badRow, badSize, badShape}
 use Rattle.shape.specs.DetailedTo.{DetailedTo}
 
 -- none of the causes 4 to 6 applies to the row
@@ -31,11 +31,17 @@ pub record Reached (w : List ℕ) (r : ℕ) (h : Holding) (d : ℕ) : Type 0 whe
   pub details : DetailedTo w r
   pub holds : h ≡ holding (class w r)
   pub shallow : depth w r ≤ d
-  pub deepest : d ≤ 100
+  pub deepest : d < 100
 
--- the row is allowed, also as child number i of a row that holds h and ends at e
-pub record AllowedChild (w p : List ℕ) (h : Holding) (e i c : ℕ) : Type 0 where
+-- the rows below the child c of a row at most d deep may fit: of size 1 it needs no child, and else d leaves room for its children
+pub record BelowAllowed (w : List ℕ) (d c : ℕ) : Type 0 where
+  pub leaf : size w c ≡ 1 → atLeast (holding (base w c)) ≡ 0
+  pub room : (size w c ≡ 1 → ⊥) → d < 99
+
+-- the row is allowed, also as child number i of a row that holds h, is at most d deep and ends at e
+pub record AllowedChild (w p : List ℕ) (h : Holding) (d e i c : ℕ) : Type 0 where
   pub allowed : badRow w p c ≡ false
   pub some-rows : 0 < size w c
   pub within : end w c ≤ e
   pub may-hold : mayHold h i (base w c) ≡ true
+  pub below : BelowAllowed w d c

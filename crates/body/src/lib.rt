@@ -1,5 +1,6 @@
 // Refusals 1 to 6 of the lent records, and with them whether a body is well-formed.
 pub mod depth;
+pub mod plain;
 pub mod walk;
 
 use names::Found;

@@ -1,30 +1,66 @@
 // One walk down the rows, which finds out whether none of the causes 4, 5 and 6 applies. It doesn't
 // say which applies, or to which row.
+use crate::plain::after_items;
 use crate::row_allowed;
 use rows::RowNumber;
 use shape::Holding;
 ghost use mathlib.Core.Path.{_≡_};
 ghost use mathlib.Core.Bool.{true};
 ghost use Prim.Native.Nat.{ℕ, _≤_, _<_};
-ghost use Rattle.rules.specs.Rows.{rowCount};
+ghost use Rattle.rules.specs.Rows.{rowCount, kind, detail};
+ghost use Rattle.rules.specs.Class.{detailAllowed, class};
+ghost use Rattle.rules.specs.Refusals.{holding};
+ghost use Rattle.shape.specs.DetailedTo.{DetailedTo};
 ghost use Rattle.shape.specs.Held.{held};
-ghost use Rattle.body.specs.Right.{Right, RightBelow, Reached, AllowedChild};
+ghost use Rattle.body.specs.Right.{Right, RightBelow, Reached, BelowAllowed, AllowedChild};
 
-// Whether the row is allowed, also as child number i of a row that holds this and ends at `end`.
+// A row whose children are walked: what it holds, and how deep it is at most.
+struct Parent {
+    row: RowNumber,
+    holding: Holding,
+    depth: usize,
+}
+
+fn parent_at(rows: &[u32], row: RowNumber, depth: usize) -> Parent
+    requires { ⌜ (row .0 < rowCount (now rows)) × DetailedTo (now rows) (row .0) ⌝ }
+    ensures { λ r. ⌜ (r .row .0 ≡ row .0) × (held (r .holding) ≡ holding (class (now (rows .entry)) (row .0))) × (r .depth ≡ depth) ⌝ }
+{
+    let holding = shape::holding_at(rows, row);
+    Parent {
+        row,
+        holding,
+        depth,
+    }
+}
+
+// Whether the rows below the child of a row so deep may fit: where there are none it needs none, and
+// none are below a row that is 100 deep.
+fn below_allowed(rows: &[u32], child: RowNumber, depth: usize) -> bool
+    requires { ⌜ (child .0 < rowCount (now rows)) × (detailAllowed (kind (now rows) (child .0)) (detail (now rows) (child .0)) ≡ true) ⌝ }
+    ensures { λ r. ⌜ (r ≡ true → BelowAllowed (now (rows .entry)) depth (child .0)) ⌝ }
+{
+    if rows::size(rows, child) == 1 {
+        return !shape::needs_children(rows::kind(rows, child));
+    }
+    depth < 99
+}
+
+// Whether the row is allowed, also as child number i of the parent, which ends at `end`.
 fn child_allowed(
     rows: &[u32],
     pairs: &[u32],
     child: RowNumber,
-    holding: Holding,
+    parent: Parent,
     end: usize,
     i: usize,
 ) -> bool
     requires { ⌜ child .0 < rowCount (now rows) ⌝ }
-    ensures { λ r. ⌜ (r ≡ true → AllowedChild (now (rows .entry)) (now (pairs .entry)) (held holding) end i (child .0)) ⌝ }
+    ensures { λ r. ⌜ (r ≡ true → AllowedChild (now (rows .entry)) (now (pairs .entry)) (held (parent .holding)) (parent .depth) end i (child .0)) ⌝ }
 {
     if !row_allowed(rows, pairs, child) {
         return false;
     }
+    let holding = parent.holding;
     if !shape::may_hold(holding, i, rows::kind(rows, child)) {
         return false;
     }
@@ -32,47 +68,55 @@ fn child_allowed(
     if size == 0 {
         return false;
     }
-    child.0 + size <= end
-}
-
-// Whether none of the causes 4, 5 and 6 applies to the rows below `row`, which holds this and is at
-// most `depth` deep. No row is below one that is 100 deep.
-fn rows_below_fit(
-    rows: &[u32],
-    pairs: &[u32],
-    row: RowNumber,
-    holding: Holding,
-    depth: usize,
-) -> bool
-    requires { ⌜ Reached (now rows) (row .0) (held holding) depth ⌝ }
-    ensures { λ r. ⌜ (r ≡ true → RightBelow (now (rows .entry)) (now (pairs .entry)) (row .0)) ⌝ }
-{
-    if 100 <= depth {
+    if end < child.0 + size {
         return false;
     }
+    below_allowed(rows, child, parent.depth)
+}
+
+// Whether none of the causes 4, 5 and 6 applies to the rows below the row. The last child, where it
+// has rows below it, is the next parent in the same loop; the other children with rows below them
+// are walked by calls.
+fn rows_below_fit(rows: &[u32], pairs: &[u32], first: Parent) -> bool
+    requires { ⌜ Reached (now rows) (first .row .0) (held (first .holding)) (first .depth) ⌝ }
+    ensures { λ r. ⌜ (r ≡ true → RightBelow (now (rows .entry)) (now (pairs .entry)) (first .row .0)) ⌝ }
+{
+    let row = first.row;
     let end = row.0 + rows::size(rows, row);
+    let mut parent = first;
     let mut c = row.0 + 1;
     let mut i = 0;
     while c < end {
         let child = RowNumber(c);
-        if !child_allowed(rows, pairs, child, holding, end, i) {
+        let holding = parent.holding;
+        let next = after_items(rows, holding, c, end);
+        if c < next {
+            i += next - c;
+            c = next;
+        } else if !child_allowed(rows, pairs, child, parent, end, i) {
             return false;
-        }
-        let size = rows::size(rows, child);
-        if size == 1 {
-            if shape::needs_children(rows::kind(rows, child)) {
-                return false;
-            }
-            c += 1;
         } else {
-            let below = shape::holding_at(rows, child);
-            if !rows_below_fit(rows, pairs, child, below, depth + 1) {
-                return false;
+            let size = rows::size(rows, child);
+            if size == 1 {
+                c += 1;
+                i += 1;
+            } else if c + size < end {
+                if !rows_below_fit(rows, pairs, parent_at(rows, child, parent.depth + 1)) {
+                    return false;
+                }
+                c += size;
+                i += 1;
+            } else {
+                if i + 1 < shape::at_least(holding) {
+                    return false;
+                }
+                parent = parent_at(rows, child, parent.depth + 1);
+                c += 1;
+                i = 0;
             }
-            c += size;
         }
-        i += 1;
     }
+    let holding = parent.holding;
     shape::at_least(holding) <= i
 }
 
@@ -88,5 +132,5 @@ pub fn well_formed_rows(rows: &[u32], pairs: &[u32]) -> bool
     if !shape::is_body(rows) {
         return false;
     }
-    rows_below_fit(rows, pairs, root, shape::holding_at(rows, root), 1)
+    rows_below_fit(rows, pairs, parent_at(rows, root, 1))
 }

@@ -1,4 +1,5 @@
 pub mod Elements
+pub mod Halves
+pub mod KeyOrder
 pub mod Merging
 pub mod Ranking
-pub mod Halves

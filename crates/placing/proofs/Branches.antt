@@ -61,12 +61,14 @@ module _ (w : List ℕ) (r : ℕ) where
   unfolding badlyPlaced
   well-not-bad t = rw (t, badlyPlaced, and-false)
 
-  pub other-not-bad : (k : ℕ) → k ≡ kind w r → detailAllowed (kind w r) (detail w r) ≡ true → (k ≡ 11 → ⊥) → false ≡ badlyPlaced w 0 r
+  pub no-branch-not-bad : isBranch (class w r) ≡ false → false ≡ badlyPlaced w 0 r
   unfolding wellPlaced
-  other-not-bad k e a n =
-      let b = sym (by-words isBranch w r k (eqb k 11) (own-branch w r) e a (λ d x. kind-jump k d x)) ∙ ne-eqb k 11 n in
+  no-branch-not-bad b =
       let c = class w r in
       well-not-bad (rw (other-class c break b refl, wellPlaced, other-class c continue b refl, other-class c fallthrough b refl))
+
+  pub other-not-bad : (k : ℕ) → k ≡ kind w r → detailAllowed (kind w r) (detail w r) ≡ true → (k ≡ 11 → ⊥) → false ≡ badlyPlaced w 0 r
+  other-not-bad k e a n = no-branch-not-bad (sym (by-words isBranch w r k (eqb k 11) (own-branch w r) e a (λ d x. kind-jump k d x)) ∙ ne-eqb k 11 n)
 
   pub named-not-bad : (n : ℕ) → n ≡ name w r → (n ≡ 0 → ⊥) → false ≡ badlyPlaced w 0 r
   unfolding badlyPlaced

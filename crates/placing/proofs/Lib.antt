@@ -1,3 +1,4 @@
-pub mod Reaching
-pub mod Ending
 pub mod Branches
+pub mod Counting
+pub mod Ending
+pub mod Reaching

@@ -1,3 +1,4 @@
+pub mod Counted
 pub mod Given
 pub mod Reach
 pub mod Searched

@@ -1,4 +1,7 @@
 // The placing call: the first unlabelled break, continue or fallthrough that is badly placed.
+mod counts;
+
+use crate::counts::next_that_counts;
 use body::Checked;
 use body::Refusal;
 use names::Found;
@@ -173,7 +176,7 @@ fn first_badly_placed(rows: &[u32], lists: &[u16]) -> Search
     let count = rows.len() / 5;
     let mut break_end = 0;
     let mut loop_end = 0;
-    let mut r = 0;
+    let mut r = next_that_counts(rows, 0, count);
     while r < count {
         let row = RowNumber(r);
         if needs_lists(rows, lists, row) {
@@ -186,7 +189,7 @@ fn first_badly_placed(rows: &[u32], lists: &[u16]) -> Search
         let end = r + rows::size(rows, row);
         break_end = later_end(break_end, rows::kinds::is_breakable(kind), end);
         loop_end = later_end(loop_end, rows::kinds::is_loop(kind), end);
-        r += 1;
+        r = next_that_counts(rows, r + 1, count);
     }
     Search::Nowhere
 }

@@ -16,20 +16,20 @@ use Rattle.canonical.proofs.join.Reads as join-reads
 use Rattle.canonical.proofs.+sort.{statement}
 use Rattle.canonical.proofs.+sort.Tie.{close}
 
-abbrev μ-sort : Measures 4 sort-kinds.ps ℕ
-μ-sort κs a = length (a .1 .1 .0 .now)
+abbrev μ-sort : Measures 5 sort-kinds.ps ℕ
+μ-sort κs a = length (a .1 .1 .1 .0 .now)
 
-abbrev sort-at : ℕ → In 4 sort-kinds.ps
-sort-at t = and 4 sort-kinds.ps (is 4 sort-kinds.ps μ-sort t) sort.Pre
+abbrev sort-at : ℕ → In 5 sort-kinds.ps
+sort-at t = and 5 sort-kinds.ps (is 5 sort-kinds.ps μ-sort t) sort.Pre
 
-abbrev sort-below : ℕ → In 4 sort-kinds.ps
-sort-below t = and 4 sort-kinds.ps (falls 4 sort-kinds.ps _<_ μ-sort t) sort.Pre
+abbrev sort-below : ℕ → In 5 sort-kinds.ps
+sort-below t = and 5 sort-kinds.ps (falls 5 sort-kinds.ps _<_ μ-sort t) sort.Pre
 
 abbrev sort-calls : ℕ → sort-lts.Claims
 sort-calls t = (sort-below t, sort.Post, join-reads.Asked, join-reads.Learnt)
 
 sort-returns : (t : ℕ) → sort-lts.Need-returns (sort-calls t) (sort-at t) sort.Post
-sort-returns t c = (sorted-short _ _ (c .before .before .before .before .before .args .names .now) (c .if1 .taken), λ P. refl)
+sort-returns t c = (sorted-short _ _ (c .before .before .before .before .before .before .args .names .now) (c .if1 .taken), λ P. refl)
 
 sort-slice-relend-prefix-sort : (t : ℕ) → sort-lts.Need-slice-relend-prefix-sort (sort-calls t) (sort-at t) sort.Post
 sort-slice-relend-prefix-sort t c = search needs
@@ -45,7 +45,7 @@ sort-slice-aggregate-sort-2 t c = simp length-take (omega arith)
 
 sort-sort-requires : (t : ℕ) → sort-lts.Need-sort-requires (sort-calls t) (sort-at t) sort.Post
 sort-sort-requires t c κs =
-    let s = c .before .before .before .before .before .before .before in
+    let s = c .before .before .before .before .before .before .before .before in
     let r = first-half (s .args .names .now) (s .args .spare .now) t (s .pre .0) (c .before .before .if1 .left) (s .pre .1 .1) in
     (r .0, (s .pre .1 .0, r .1))
 
@@ -75,7 +75,7 @@ sort-part-sort-end-2 t c = search needs
 
 -- The function's start, seen from where the second half is lent; what the first call leaves, seen from there; and what both leave, seen from where they are joined.
 abbrev start : (t : ℕ) → sort-lts.After-sort-arg4 (sort-calls t) (sort-at t) sort.Post → sort-lts.Start (sort-calls t) (sort-at t) sort.Post
-start t c = c .before .before .before .before .before .before .before .before .before .before .before .before .before .before
+start t c = c .before .before .before .before .before .before .before .before .before .before .before .before .before .before .before
 
 abbrev firstAt : (t : ℕ) (c : sort-lts.After-sort-arg4 (sort-calls t) (sort-at t) sort.Post)
     → First (start t c .args .pairs .now) (start t c .args .bytes .now) (start t c .args .names .now) (start t c .args .spare .now)
@@ -83,10 +83,10 @@ firstAt t c =
     let r = c .before .before .before .before .before .before .sort in
     record {
       room = start t c .pre .1 .1;
-      e = r .last .1 .1 .0;
-      g = r .last .1 .1 .1 .0;
-      e-length = r .kept .1 .1 .0;
-      g-length = r .kept .1 .1 .1 .0;
+      e = r .last .1 .1 .1 .0;
+      g = r .last .1 .1 .1 .1 .0;
+      e-length = r .kept .1 .1 .1 .0;
+      g-length = r .kept .1 .1 .1 .1 .0;
       e-sorted = r .ensures .0;
       e-same = r .ensures .1;
     }
@@ -96,10 +96,10 @@ abbrev secondAt : (t : ℕ) (c : sort-lts.After-join-arg2 (sort-calls t) (sort-a
 secondAt t c =
     let r = c .before .before .before .before .before .before .sort2 in
     record {
-      f = r .last .1 .1 .0;
-      h = r .last .1 .1 .1 .0;
-      f-length = r .kept .1 .1 .0;
-      h-length = r .kept .1 .1 .1 .0;
+      f = r .last .1 .1 .1 .0;
+      h = r .last .1 .1 .1 .1 .0;
+      f-length = r .kept .1 .1 .1 .0;
+      h-length = r .kept .1 .1 .1 .1 .0;
       f-sorted = r .ensures .0;
       f-same = r .ensures .1;
     }
@@ -114,11 +114,11 @@ sort-join-requires t c κs = (start t (c .before .before .before .before .before
 
 sort-same-length : (t : ℕ) → sort-lts.Need-same-length (sort-calls t) (sort-at t) sort.Post
 sort-same-length t c =
-    halves-length _ (secondAt t (c .before .before .before .before .before)) _ (c .before .before .before .before .join .kept .1 .1 .0)
+    halves-length _ (secondAt t (c .before .before .before .before .before)) _ (c .before .before .before .before .join .kept .1 .1 .1 .0)
 
 sort-same-length-2 : (t : ℕ) → sort-lts.Need-same-length-2 (sort-calls t) (sort-at t) sort.Post
 sort-same-length-2 t c =
-    spares-length _ (secondAt t (c .before .before .before .before .before)) _ (c .before .before .before .before .join .kept .1 .1 .1 .1 .0)
+    spares-length _ (secondAt t (c .before .before .before .before .before)) _ (c .before .before .before .before .join .kept .1 .1 .1 .1 .1 .0)
 
 sort-returns-2 : (t : ℕ) → sort-lts.Need-returns-2 (sort-calls t) (sort-at t) sort.Post
 sort-returns-2 t c =

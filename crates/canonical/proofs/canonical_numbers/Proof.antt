@@ -1,29 +1,14 @@
--- `canonical::canonical_numbers` meets its contract. There are at most 500 names, so their numbers have room in the two arrays.
+-- `canonical::canonical_numbers` meets its contract: either way the ranks are written.
 -- Assumes nothing.
-use mathlib.Core.Path.{sym}
-use lib.Seq.{length-take-le}
 use borrow.Author.Needs.{needs}
-use Rattle.canonical.proofs.Ranking.{few-names}
 use Rattle.canonical.proofs.canonical_numbers.Statement.{statement}
 use Rattle.canonical.proofs.canonical_numbers.Tie as tie
 
-array-borrow-prefix-names : tie.Need-array-borrow-prefix-names
-array-borrow-prefix-names c = few-names _ _ (c .before .before .before .pre .0)
+few-numbers-requires : tie.Need-few-numbers-requires
+few-numbers-requires c κs = search needs
 
-slice-aggregate-rank-names : tie.Need-slice-aggregate-rank-names
-slice-aggregate-rank-names c = sym (length-take-le _ _ (few-names _ _ (c .before .before .before .before .pre .0)))
-
-array-borrow-prefix-spare : tie.Need-array-borrow-prefix-spare
-array-borrow-prefix-spare c = few-names _ _ (c .before .before .before .before .pre .0)
-
-slice-aggregate-rank-names-2 : tie.Need-slice-aggregate-rank-names-2
-slice-aggregate-rank-names-2 c = sym (length-take-le _ _ (few-names _ _ (c .before .before .before .before .before .pre .0)))
-
-rank-names-requires : tie.Need-rank-names-requires
-rank-names-requires c κs =
-    let s = c .before .before .before .before .before .before in
-    let h = few-names _ _ (s .pre .0) in
-    (s .pre .0, ((length-take-le _ _ h, length-take-le _ _ h), s .pre .1))
+many-numbers-requires : tie.Need-many-numbers-requires
+many-numbers-requires c κs = search needs
 
 same-length : tie.Need-same-length
 same-length c = search needs
@@ -31,14 +16,12 @@ same-length c = search needs
 returns : tie.Need-returns
 returns c = search needs
 
+same-length-2 : tie.Need-same-length-2
+same-length-2 c = search needs
+
+returns-2 : tie.Need-returns-2
+returns-2 c = search needs
+
 pub canonical-numbers-spec : {M : Type 1} → statement M
 canonical-numbers-spec =
-    tie.close
-    (tie.spec
-    array-borrow-prefix-names
-    slice-aggregate-rank-names
-    array-borrow-prefix-spare
-    slice-aggregate-rank-names-2
-    rank-names-requires
-    same-length
-    returns)
+    tie.close (tie.spec few-numbers-requires many-numbers-requires same-length returns same-length-2 returns-2)

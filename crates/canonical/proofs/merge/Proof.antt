@@ -10,13 +10,13 @@ use Rattle.canonical.proofs.merge.Statement.{statement}
 use Rattle.canonical.proofs.merge.Tie as tie
 
 abbrev Inv-loop : tie.InvT-loop
-Inv-loop pairs bytes names mid out₀ i₀ j₀ k₀ out i j k = Merging pairs bytes names out mid i j k
+Inv-loop pairs bytes keys names mid out₀ i₀ j₀ k₀ out i j k = Merging pairs bytes names out mid i j k
 
 abbrev μ-loop : tie.MeasureT-loop
-μ-loop pairs bytes names mid out₀ i₀ j₀ k₀ out i j k = length names - k
+μ-loop pairs bytes keys names mid out₀ i₀ j₀ k₀ out i j k = length names - k
 
 loop-holds : tie.Need-loop-holds Inv-loop μ-loop
-loop-holds c = let s = c .before .before .before .before in merge-start _ _ _ _ (s .pre .1 .0 .0) _ (s .pre .1 .0 .1)
+loop-holds c = let s = c .before .before .before .before .before in merge-start _ _ _ _ (s .pre .1 .0 .0) _ (s .pre .1 .0 .1)
 
 takes-left-requires : tie.Need-takes-left-requires Inv-loop μ-loop
 takes-left-requires c κs = search needs
@@ -59,7 +59,7 @@ loop-less c = search needs
 
 loop-again : tie.Need-loop-again Inv-loop μ-loop
 loop-again c =
-    let s = c .before .before .before .before .before .before .before .before in
+    let s = c .before .before .before .before .before .before .before .before .before in
     let w = c .before .before .before .loop .inv in
     ⊎-elim
     (λ a.
@@ -74,7 +74,7 @@ same-length : tie.Need-same-length Inv-loop μ-loop
 same-length c = search needs
 
 returns : tie.Need-returns Inv-loop μ-loop
-returns c = let s = c .before .before .before .before .before .before in merge-end _ _ _ _ (s .pre .1 .0 .0) _ _ _ _ (c .before .loop .inv) (c .loop-test .left)
+returns c = let s = c .before .before .before .before .before .before .before in merge-end _ _ _ _ (s .pre .1 .0 .0) _ _ _ _ (c .before .loop .inv) (c .loop-test .left)
 
 pub merge-spec : {M : Type 1} → statement M
 merge-spec =

@@ -10,16 +10,16 @@ use Rattle.canonical.proofs.rank.Statement.{statement}
 use Rattle.canonical.proofs.rank.Tie as tie
 
 abbrev Inv-loop : tie.InvT-loop
-Inv-loop pairs bytes names ranks₀ at₀ i₀ ranks at i = Ranking pairs bytes names ranks₀ ranks i at
+Inv-loop pairs bytes keys names ranks₀ at₀ i₀ ranks at i = Ranking pairs bytes names ranks₀ ranks i at
 
 abbrev μ-loop : tie.MeasureT-loop
-μ-loop pairs bytes names ranks₀ at₀ i₀ ranks at i = length names - i
+μ-loop pairs bytes keys names ranks₀ at₀ i₀ ranks at i = length names - i
 
 loop-holds : tie.Need-loop-holds Inv-loop μ-loop
 loop-holds c = ranking-start _ _ _ _
 
 rank-at-requires : tie.Need-rank-at-requires Inv-loop μ-loop
-rank-at-requires c κs = let s = c .before .before .before .before .before .before in (s .pre .0, (s .pre .1 .0, (c .loop-test .taken, c .before .loop .inv .last)))
+rank-at-requires c κs = let s = c .before .before .before .before .before .before .before in (s .pre .0, (s .pre .1 .0, (c .loop-test .taken, c .before .loop .inv .last)))
 
 mul-wide : tie.Need-mul-wide Inv-loop μ-loop
 mul-wide c = search needs
@@ -34,8 +34,8 @@ wide-requires c κs = search needs
 bounded : (c : tie.After-wide Inv-loop μ-loop)
     → (c .wide .result < length (c .before .before .before .before .loop .ranks)) × (c .wide .result ≤ 500) × (c .before .before .rank-at .result ≤ 500)
 bounded c =
-    let s = c .before .before .before .before .before .before .before .before .before in
-    let r = rank-bounds _ _ _ _ (s .pre .0) (s .pre .1 .0 .1) (c .before .before .before .loop-test .taken) in
+    let s = c .before .before .before .before .before .before .before .before .before .before in
+    let r = rank-bounds _ _ _ _ (s .pre .0 .names-ok) (s .pre .1 .0 .1) (c .before .before .before .loop-test .taken) in
     omega arith
 
 cast-ranks : tie.Need-cast-ranks Inv-loop μ-loop
@@ -55,7 +55,7 @@ loop-less c = search needs
 
 loop-again : tie.Need-loop-again Inv-loop μ-loop
 loop-again c =
-    let s = c .before .before .before .before .before .before .before .before .before in
+    let s = c .before .before .before .before .before .before .before .before .before .before in
     let w = c .before .before .before .before .loop .inv in
     let l = c .before .before .before .loop-test .taken in
     ranking-more _ _ _ _ _ _ _ (s .pre .1 .0 .1) w (s .pre .1 .1) _ _ l (c .wide .ensures) (c .before .before .rank-at .ensures)
@@ -65,7 +65,7 @@ same-length c = search needs
 
 returns : tie.Need-returns Inv-loop μ-loop
 returns c =
-    let s = c .before .before .before .before .before .before in
+    let s = c .before .before .before .before .before .before .before in
     ranking-end _ _ _ _ _ _ _ (s .pre .1 .0 .1) (c .before .loop .inv) (s .pre .1 .1) (c .loop-test .left)
 
 pub rank-spec : {M : Type 1} → statement M

@@ -6,7 +6,7 @@ use Rattle.canonical.proofs.rank_at.Statement.{statement}
 use Rattle.canonical.proofs.rank_at.Tie as tie
 
 returns : tie.Need-returns
-returns c = let s = c .before .before .before .before in rank-first _ _ _ (s .pre .1 .0 .0) (s .pre .1 .0 .1) _ (s .pre .1 .1 .0) (c .if1 .taken)
+returns c = let s = c .before .before .before .before .before in rank-first _ _ _ (s .pre .1 .0 .0) (s .pre .1 .0 .1) _ (s .pre .1 .1 .0) (c .if1 .taken)
 
 sub-name-before : tie.Need-sub-name-before
 sub-name-before c = search needs
@@ -31,13 +31,13 @@ add-result c = search needs
 
 returns-2 : tie.Need-returns-2
 returns-2 c =
-    let s = c .before .before .before .before .before .before .before .before in
+    let s = c .before .before .before .before .before .before .before .before .before in
     rank-later _ _ _ (s .pre .1 .0 .0) (s .pre .1 .0 .1) _ (s .pre .1 .1 .0) (c .before .before .before .before .if1 .left) _ (c .before .name-before .ensures)
     (c .if2 .taken)
 
 returns-3 : tie.Need-returns-3
 returns-3 c =
-    let s = c .before .before .before .before .before .before .before .before in
+    let s = c .before .before .before .before .before .before .before .before .before in
     rank-equal _ _ _ (s .pre .1 .0 .0) (s .pre .1 .0 .1) _ (s .pre .1 .1 .0) (c .before .before .before .before .if1 .left) _ (c .before .name-before .ensures) _
     (c .if2 .left) (s .pre .1 .1 .1)
 

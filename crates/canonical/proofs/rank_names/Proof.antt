@@ -8,14 +8,14 @@ use Rattle.canonical.proofs.rank_names.Statement.{statement}
 use Rattle.canonical.proofs.rank_names.Tie as tie
 
 number-requires : tie.Need-number-requires
-number-requires c κs = omega (arith, few-names _ _ (c .before .before .before .before .before .before .pre .0))
+number-requires c κs = omega (arith, few-names _ _ (c .before .before .before .before .before .before .before .pre .0 .names-ok))
 
 sort-requires : tie.Need-sort-requires
 sort-requires c κs = search needs
 
 rank-requires : tie.Need-rank-requires
 rank-requires c κs =
-    let s = c .before .before .before .before .before .before .before .before .before .before .before .before .before .before .before .before .before .before in
+    let s = c .before .before .before .before .before .before .before .before .before .before .before .before .before .before .before .before .before .before .before in
     let r = c .before .before .before .before .before .before .sort .ensures in
     let n = c .before .before .before .before .before .before .before .before .before .before .before .number .ensures in
     let o = one-to-same _ _ _ _ (s .pre .1 .0 .0) n (r .1) in

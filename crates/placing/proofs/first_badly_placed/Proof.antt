@@ -1,8 +1,8 @@
--- The invariant: no row below r is badly placed, and break_end and loop_end say how far the rows below r reach, of those that a break and a continue need.
+-- The invariant: no row below r is badly placed, and break_end and loop_end say how far the rows below r reach, of those that a break and a continue need;
+-- the rows passed over change neither.
 -- The measure is what is left of the count. Assumes nothing.
 use mathlib.Core.Path.{_≡_, sym, _∙_, ap}
-use mathlib.Core.Bool.{false}
-use Prim.Native.Nat.{ℕ, _+_, _-_, _<_}
+use Prim.Native.Nat.{ℕ, _+_, _-_}
 use native.Mathlib.Omega.{arith}
 use borrow.Author.Count.{below-none, below-more}
 use Rattle.rules.specs.Rows.{rowCount, end}
@@ -10,14 +10,14 @@ use Rattle.rules.specs.Class.{isBreakable, isLoop}
 use Rattle.rules.specs.Placing.{badlyPlaced, placing}
 use Rattle.rules.proofs.Scan.{found-lowest, none-lowest}
 use Rattle.rules.proofs.Lists.{own-breakable, own-loop, by-words}
-use Rattle.placing.specs.Reach.{Reach}
+use Rattle.placing.proofs.Counting.{Known, known-over}
 use Rattle.placing.proofs.Reaching.{reach-none, reach-more}
 use Rattle.placing.proofs.first_badly_placed.Statement.{statement}
 use Rattle.placing.proofs.first_badly_placed.Tie as tie
 
 abbrev Inv-loop : tie.InvT-loop
 Inv-loop rows lists count break-end₀ loop-end₀ r₀ break-end loop-end r =
-    ((k : ℕ) → k < r → badlyPlaced rows 0 k ≡ false) × Reach rows isBreakable r break-end × Reach rows isLoop r loop-end
+    Known rows r break-end loop-end
 
 abbrev μ-loop : tie.MeasureT-loop
 μ-loop rows lists count break-end₀ loop-end₀ r₀ break-end loop-end r = count - r
@@ -26,8 +26,11 @@ abbrev μ-loop : tie.MeasureT-loop
 whole : (s : tie.Start Inv-loop μ-loop) → end (s .args .rows .now) 0 ≡ rowCount (s .args .rows .now)
 whole s = omega (arith, s .pre .0 .2 .root-size)
 
+next-that-counts-requires : tie.Need-next-that-counts-requires Inv-loop μ-loop
+next-that-counts-requires c κs = (c .before .before .pre .0 .2 .details, omega arith, omega arith)
+
 loop-holds : tie.Need-loop-holds Inv-loop μ-loop
-loop-holds c = (below-none _, reach-none _ isBreakable, reach-none _ isLoop)
+loop-holds c = known-over (c .next-that-counts .ensures) (below-none _, reach-none _ isBreakable, reach-none _ isLoop)
 
 needs-lists-requires : tie.Need-needs-lists-requires Inv-loop μ-loop
 needs-lists-requires c κs = c .loop-test .taken
@@ -39,14 +42,14 @@ badly-placed-requires : tie.Need-badly-placed-requires Inv-loop μ-loop
 badly-placed-requires c κs =
     let t = c .before .before in
     let v = t .before .loop .inv in
-    let p = t .before .before .before .before .pre in
+    let p = t .before .before .before .before .before .pre in
     ((p .0, λ f. p .1 (c .before .needs-lists .ensures .1 (c .if1 .left) f)), (t .loop-test .taken, (v .1, v .2)))
 
 returns-2 : tie.Need-returns-2 Inv-loop μ-loop
 unfolding placing
 returns-2 c =
     let l = c .before .before .before .before .before in
-    let s = l .before .before .before in
+    let s = l .before .before .before .before in
     let w = s .args .rows .now in
     sym (found-lowest (badlyPlaced w 0) (end w 0) (l .loop .r) (omega (arith, whole s, c .before .before .before .before .loop-test .taken))
     (sym (c .before .badly-placed .ensures) ∙ c .if2 .taken) (l .loop .inv .0))
@@ -60,7 +63,7 @@ size-requires c κs = c .before .before .before .before .before .loop-test .take
 add-end : tie.Need-add-end Inv-loop μ-loop
 add-end c =
     let l = c .before .before .before .before .before .before .before in
-    omega (arith, c .size .ensures, l .before .before .before .pre .0 .2 .sized .within (l .loop .r) (c .before .before .before .before .before .before .loop-test .taken))
+    omega (arith, c .size .ensures, l .before .before .before .before .pre .0 .2 .sized .within (l .loop .r) (c .before .before .before .before .before .before .loop-test .taken))
 
 is-breakable-requires : tie.Need-is-breakable-requires Inv-loop μ-loop
 is-breakable-requires c κs = tt
@@ -74,23 +77,28 @@ is-loop-requires c κs = tt
 later-end-requires-2 : tie.Need-later-end-requires-2 Inv-loop μ-loop
 later-end-requires-2 c κs = tt
 
-add-r : tie.Need-add-r Inv-loop μ-loop
-add-r c = omega (arith, c .before .before .before .before .before .before .before .before .before .before .loop-test .taken)
+add-next-that-counts : tie.Need-add-next-that-counts Inv-loop μ-loop
+add-next-that-counts c = omega (arith, c .before .before .before .before .before .before .before .before .before .before .loop-test .taken)
+
+next-that-counts-requires-2 : tie.Need-next-that-counts-requires-2 Inv-loop μ-loop
+next-that-counts-requires-2 c κs = (c .before .before .before .before .before .before .before .before .before .before .before .before .before .before .before .pre .0 .2 .details, omega (arith, c .before .before .before .before .before .before .before .before .before .before .loop-test .taken), omega arith)
 
 loop-less : tie.Need-loop-less Inv-loop μ-loop
-loop-less c = omega (arith, c .before .before .before .before .before .before .before .before .before .before .loop-test .taken)
+loop-less c = omega (arith, c .before .before .before .before .before .before .before .before .before .before .before .loop-test .taken, c .next-that-counts2 .ensures .low)
 
 loop-again : tie.Need-loop-again Inv-loop μ-loop
-loop-again c =
+loop-again d =
+    let c = d .before in
     let b = c .before .before .before in
     let z = b .before in
     let k = z .before in
     let t = k .before .before .before .before .before in
     let l = t .before in
-    let s = l .before .before .before in
+    let s = l .before .before .before .before in
     let v = l .loop .inv in
     let a = s .pre .0 .2 .details (l .loop .r) (t .loop-test .taken) in
-    let e = ap (λ (n : ℕ). l .loop .r + n) (z .size .ensures) in (
+    let e = ap (λ (n : ℕ). l .loop .r + n) (z .size .ensures) in
+    known-over (d .next-that-counts2 .ensures) (
       below-more _ _ (v .0) (sym (k .before .before .badly-placed .ensures) ∙ k .before .if2 .left),
       reach-more _ isBreakable _ _ _ _ _ (by-words isBreakable _ _ _ _ (own-breakable _ (l .loop .r)) (k .kind .ensures) a (b .is-breakable .ensures)) e (v .1)
           (c .before .before .later-end .ensures),
@@ -102,7 +110,7 @@ returns-3 : tie.Need-returns-3 Inv-loop μ-loop
 unfolding placing
 returns-3 c =
     let l = c .before in
-    let s = l .before .before .before in
+    let s = l .before .before .before .before in
     sym (none-lowest _ _ (λ k h. l .loop .inv .0 k (omega (arith, whole s, c .loop-test .left))))
 
 pub first-badly-placed-spec : {M : Type 1} → statement M
@@ -111,6 +119,7 @@ first-badly-placed-spec =
     (tie.spec
     Inv-loop
     μ-loop
+    next-that-counts-requires
     loop-holds
     needs-lists-requires
     returns
@@ -123,7 +132,8 @@ first-badly-placed-spec =
     later-end-requires
     is-loop-requires
     later-end-requires-2
-    add-r
+    add-next-that-counts
+    next-that-counts-requires-2
     loop-less
     loop-again
     returns-3)

@@ -5,7 +5,7 @@ use mathlib.Core.Bool.{false}
 use Prim.Native.Nat.{_+_, _*_}
 use native.Mathlib.Omega.{arith}
 use borrow.Author.Needs.{needs}
-use borrow.Author.Tests.{not-true, not-false, leb-true}
+use borrow.Author.Tests.{not-true, not-false}
 use Rattle.rules.specs.Refusals.{badRow}
 use Rattle.rules.proofs.Facts.{good-row}
 use Rattle.shape.specs.Held.{held}
@@ -35,25 +35,37 @@ size-requires c κs = search needs
 returns-3 : tie.Need-returns-3
 returns-3 c = never
 
-add-result : tie.Need-add-result
-add-result c = let s = c .before .before .before .before .before .before .before .before .before .before in omega (arith, c .before .before .before .before .before .before .before .before .before .shared-slice-known .given (s .args .child .0 * 5 + 4))
+-- past the first test the row is allowed
+allowed : (c : tie.Else1) → badRow (c .before .before .before .before .args .rows .now) (c .before .before .before .before .args .pairs .now) (c .before .before .before .before .args .child .0) ≡ false
+allowed c = not-true _ (sym (c .before .row-allowed .ensures) ∙ not-false _ (c .if1 .left))
+
+add-if4 : tie.Need-add-if4
+add-if4 c = let s = c .before .before .before .before .before .before .before .before .before .before in omega (arith, c .before .before .before .before .before .before .before .before .before .shared-slice-known .given (s .args .child .0 * 5 + 4))
 
 returns-4 : tie.Need-returns-4
-returns-4 c y =
-    let s = c .before .before .before .before .before .before .before .before .before .before in
+returns-4 c = never
+
+below-allowed-requires : tie.Need-below-allowed-requires
+below-allowed-requires c κs =
+    let s = c .before .before .before .before .before .before .before .before .before .before .before in (s .pre, good-row (s .args .rows .now) (s .args .pairs .now) (s .args .child .0) (allowed (c .before .before .before .before .before .before .before)) .detailed)
+
+returns-5 : tie.Need-returns-5
+returns-5 c y =
+    let s = c .before .before .before .before .before .before .before .before .before .before .before .before in
     let w = s .args .rows .now in
     let p = s .args .pairs .now in
     let r = s .args .child .0 in
-    let n = c .before .before .size .ensures in
-    let m = c .before .before .before in
-    let g : badRow w p r ≡ false = not-true _ (sym (c .before .before .before .before .before .before .before .row-allowed .ensures) ∙ not-false _ (c .before .before .before .before .before .before .if1 .left)) in
+    let n = c .before .before .before .before .size .ensures in
+    let m = c .before .before .before .before .before in
+    let g = allowed (c .before .before .before .before .before .before .before .before) in
     record {
       allowed = g;
-      some-rows = omega (arith, c .before .if3 .left);
-      within = omega (arith, leb-true (r + c .before .before .size .result) (s .args .end) y);
+      some-rows = omega (arith, n, c .before .before .before .if3 .left);
+      within = omega (arith, n, c .before .if4 .left);
       may-hold =
-          may w (held (s .args .holding)) (s .args .i) r (good-row w p r g .detailed) (m .before .before .kind .ensures) (m .before .may-hold .ensures)
+          may w (held (s .args .parent .holding)) (s .args .i) r (good-row w p r g .detailed) (m .before .before .kind .ensures) (m .before .may-hold .ensures)
           ∙ not-false _ (m .if2 .left);
+      below = c .below-allowed .ensures y;
     }
 
 pub child-allowed-spec : {M : Type 1} → statement M
@@ -67,5 +79,7 @@ child-allowed-spec =
     returns-2
     size-requires
     returns-3
-    add-result
-    returns-4)
+    add-if4
+    returns-4
+    below-allowed-requires
+    returns-5)

@@ -30,10 +30,10 @@ module _ (w p : List ℕ) (some : 0 < rowCount w) (g : badRow w p 0 ≡ false) (
   unfolding isBody
   root-size = eqb-true (size w 0) (rowCount w) (and-true (oneOf (block ∷ []) (base w 0)) (eqb (size w 0) (rowCount w)) b .1)
 
-  root-reached : rowCount w ≤ 2000 → {h : Holding} → h ≡ holding (class w 0) → Reached w 0 h 1
-  root-reached most o =
+  root-reached : rowCount w ≤ 2000 → {r : ℕ} → r ≡ 0 → {h : Holding} → h ≡ holding (class w 0) → {d : ℕ} → d ≡ 1 → Reached w r h d
+  root-reached most z o q =
       let s = root-size in
-      record {
+      rw z record {
         row = some;
         most-rows = most;
         some-rows = omega arith;
@@ -77,8 +77,8 @@ is-body-requires c κs = let s = c .before .before .before .before in (s .pre .0
 returns-2 : tie.Need-returns-2
 returns-2 c = never
 
-holding-at-requires : tie.Need-holding-at-requires
-holding-at-requires c κs =
+parent-at-requires : tie.Need-parent-at-requires
+parent-at-requires c κs =
     let s = c .before .before .before .before .before .before in
     (s .pre .0, root-details (s .args .rows .now) (s .args .pairs .now) (allowed (c .before .before)))
 
@@ -86,13 +86,16 @@ rows-below-fit-requires : tie.Need-rows-below-fit-requires
 rows-below-fit-requires c κs =
     let b = c .before in
     let s = b .before .before .before .before .before .before in
-    root-reached (s .args .rows .now) (s .args .pairs .now) (s .pre .0) (allowed (b .before .before)) (a-body b) (s .pre .1) (c .holding-at .ensures)
+    let o = c .parent-at .ensures in
+    root-reached (s .args .rows .now) (s .args .pairs .now) (s .pre .0) (allowed (b .before .before)) (a-body b) (s .pre .1) (o .0) (o .1) (o .2)
 
 returns-3 : tie.Need-returns-3
 returns-3 c y =
     let b = c .before .before in
     let s = b .before .before .before .before .before .before in
-    all-right (s .args .rows .now) (s .args .pairs .now) (s .pre .0) (allowed (b .before .before)) (a-body b) (c .rows-below-fit .ensures y)
+    let w = s .args .rows .now in
+    let p = s .args .pairs .now in
+    all-right w p (s .pre .0) (allowed (b .before .before)) (a-body b) (subst (RightBelow w p) (c .before .parent-at .ensures .0) (c .rows-below-fit .ensures y))
 
 pub well-formed-rows-spec : {M : Type 1} → statement M
 well-formed-rows-spec =
@@ -102,6 +105,6 @@ well-formed-rows-spec =
     returns
     is-body-requires
     returns-2
-    holding-at-requires
+    parent-at-requires
     rows-below-fit-requires
     returns-3)
