@@ -4,6 +4,7 @@ pub mod CurrentLabel
 pub mod ContextRows
 pub mod TableSteps
 pub mod WalkSteps
+pub mod PlainRows
 pub mod RowSteps
 pub mod LeftRows
 pub mod LeftTurns

@@ -2,7 +2,7 @@
 -- or Select apart.
 -- Assumes nothing.
 use mathlib.Core.Path.{_≡_, refl, sym, _∙_}
-use mathlib.Core.Bool.{Bool, true, false, _&&_, _||_}
+use mathlib.Core.Bool.{Bool, true, false, _&&_, _||_, not, and-false}
 use mathlib.Core.List.{List, [], _∷_}
 use Prim.Native.Nat.{ℕ, zero, suc, _<_}
 use lib.Dec.{eqb}
@@ -49,6 +49,10 @@ module _ {w p b : List ℕ} (body : Body w p b) (x : ℕ) (h : x < rowCount w) w
   block-words : eqb (kind w x) 12 ≡ isBlock (class w x)
   block-words = block-kind w x (body .details x h)
 
+  block-detail : (eqb (kind w x) 12 && not (eqb (detail w x) 1)) ≡ isBlock (class w x)
+  unfolding every lowest detailAllowed classOf
+  block-detail = by-words (λ k d. eqb k 12 && not (eqb d 1)) isBlock refl refl body x h
+
   declaration-words : ((eqb (kind w x) 1 || eqb (kind w x) 7) && eqb (detail w x) 1) ≡ isClass w declaration x
   unfolding every lowest detailAllowed classOf
   declaration-words = by-words (λ k d. (eqb k 1 || eqb k 7) && eqb d 1) (oneOf (declaration ∷ [])) refl refl body x h
@@ -73,12 +77,19 @@ module _ {w p b : List ℕ} (body : Body w p b) (x : ℕ) (h : x < rowCount w) w
     pub no-block : (k ≡ 12 → ⊥) → isBlock (class w x) ≡ false
     no-block n = sym block-words ∙ ne-eqb (kind w x) 12 (λ i. n (e ∙ i))
 
-    -- a Decl or Assign is a declaration by its detail
-    pub decl-detail : k ≡ 1 → eqb (detail w x) 1 ≡ isClass w declaration x
-    decl-detail i = sym (rw (eq-eqb (kind w x) 1 (sym e ∙ i))) ∙ declaration-words
-
-    pub assign-detail : k ≡ 7 → eqb (detail w x) 1 ≡ isClass w declaration x
-    assign-detail i = sym (rw (sym e ∙ i)) ∙ declaration-words
-
     pub no-declaration : (k ≡ 1 → ⊥) → (k ≡ 7 → ⊥) → isClass w declaration x ≡ false
     no-declaration m n = sym declaration-words ∙ rw (ne-eqb (kind w x) 1 (λ i. m (e ∙ i)), ne-eqb (kind w x) 7 (λ i. n (e ∙ i)))
+
+    -- ---- and by the detail
+    module _ (v : ℕ) (ev : v ≡ detail w x) where
+      pub is-declaration : v ≡ 1 → (eqb k 1 || eqb k 7) ≡ true → isClass w declaration x ≡ true
+      is-declaration i q = sym declaration-words ∙ rw (sym e, q, eq-eqb (detail w x) 1 (sym ev ∙ i))
+
+      pub other-detail : (v ≡ 1 → ⊥) → isClass w declaration x ≡ false
+      other-detail n = sym declaration-words ∙ rw (ne-eqb (detail w x) 1 (λ i. n (ev ∙ i)), and-false)
+
+      pub no-block-detail : v ≡ 1 → isBlock (class w x) ≡ false
+      no-block-detail i = sym block-detail ∙ rw (eq-eqb (detail w x) 1 (sym ev ∙ i), and-false)
+
+    pub other-kind : (eqb k 1 || eqb k 7) ≡ false → isClass w declaration x ≡ false
+    other-kind q = sym declaration-words ∙ rw (sym e, q)

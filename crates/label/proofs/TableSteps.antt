@@ -7,10 +7,8 @@ use mathlib.Core.Option.{some}
 use Prim.Native.Nat.{ℕ, suc, _+_, _-_, _≤_, _<_}
 use native.Mathlib.Numerals.{add-one}
 use native.Mathlib.Omega.{arith}
-use lib.Dec.{eqb}
 use lib.ListN.{length, getD, set}
-use borrow.Author.Tests.{eq-eqb, ne-eqb}
-use Rattle.rules.specs.Rows.{rowCount, detail, name, size}
+use Rattle.rules.specs.Rows.{rowCount, name, size}
 use Rattle.rules.specs.Class.{declaration, labeled, class}
 use Rattle.rules.specs.Scope.{isBlock, listOf}
 use Rattle.rules.specs.Labels.{isClass, isLabel, latestDeclaration, word}
@@ -27,7 +25,7 @@ use Rattle.branches.proofs.TableRows.{canon-read}
 use Rattle.label.specs.Contexts.{latestLabel, ListTable, Listing, Contexts}
 use Rattle.label.proofs.ListRows.{list-before, InList, listing, block-word, in-list}
 use Rattle.label.proofs.CurrentLabel.{no-list, no-label, open-label, ended-label, found}
-use Rattle.label.proofs.ContextRows.{latests-kept, latests-set, labels-kept, labels-set, latest-declaration}
+use Rattle.label.proofs.ContextRows.{latests-set, labels-kept, labels-set, latest-declaration}
 
 -- ---- the word of a row's list leads to a place in both tables
 abbrev Placed : ℕ → List ℕ → List ℕ → Type 0
@@ -42,35 +40,28 @@ placed body x h contexts list j =
       omega (arith, contexts .labels-are .room),
     )
 
--- ---- a Decl or Assign, whose detail v says whether it is a declaration
+-- ---- a declaration
 module _ {w p b ls d m : List ℕ} (t : Listing w p b ls) (x : ℕ) (h : x < rowCount w) (contexts : Contexts w p b x d m)
-    (by-detail : eqb (detail w x) 1 ≡ isClass w declaration x) (v : ℕ) (ev : v ≡ detail w x) where
-  pub not-declared : (v ≡ 1 → ⊥) → ListTable w (latestIn w p b) (suc x) d
-  not-declared n = latests-kept w p b x d (sym by-detail ∙ ne-eqb (detail w x) 1 (λ i. n (ev ∙ i))) (contexts .latests-are)
+    (declares : isClass w declaration x ≡ true) (list : ℕ) (e : list ≡ getD ls x 0) where
+  its-list : InList w x list
+  its-list = let c = is-one (class w x) declaration declares in in-list t x h list e (rw c) (λ j. clash (cc))
 
-  module _ (i : v ≡ 1) (list : ℕ) (e : list ≡ getD ls x 0) where
-    declares : isClass w declaration x ≡ true
-    declares = sym by-detail ∙ eq-eqb (detail w x) 1 (sym ev ∙ i)
+  pub declared-list : Placed list d m
+  declared-list = placed (t .body) x h contexts list its-list
 
-    its-list : InList w x list
-    its-list = let c = is-one (class w x) declaration declares in in-list t x h list e (rw c) (λ j. clash (cc))
+  -- the list's context before and after `declared`
+  module _ (was now : Context) (ec : now ≡ withLatest was (x + 1)) where
+    declared-row : now .latest ≡ x + 1
+    declared-row = ap (λ (y : Context). y .latest) ec
 
-    pub declared-list : Placed list d m
-    declared-list = placed (t .body) x h contexts list its-list
+    pub declared-fits : now .latest ≤ 2000
+    declared-fits = let g = declared-row in omega (arith, h, t .body .most-rows)
 
-    -- the list's context before and after `declared`
-    module _ (was now : Context) (ec : now ≡ withLatest was (x + 1)) where
-      declared-row : now .latest ≡ x + 1
-      declared-row = ap (λ (y : Context). y .latest) ec
-
-      pub declared-fits : now .latest ≤ 2000
-      declared-fits = let g = declared-row in omega (arith, h, t .body .most-rows)
-
-      pub declared : ListTable w (latestIn w p b) (suc x) (set d (list - 1) (now .latest))
-      declared =
-          let j = its-list in
-          let before = j .before in
-          rw (declared-row, add-one x) (latests-set w p b x d (list - 1) declares (j .is-list) (omega arith) (contexts .latests-are))
+    pub declared : ListTable w (latestIn w p b) (suc x) (set d (list - 1) (now .latest))
+    declared =
+        let j = its-list in
+        let before = j .before in
+        rw (declared-row, add-one x) (latests-set w p b x d (list - 1) declares (j .is-list) (omega arith) (contexts .latests-are))
 
 -- ---- a Labeled row; n is its canonical number
 module _ {w p b cs ds ls d m : List ℕ} (t : Tables w p b cs ds ls) (x : ℕ) (h : x < rowCount w) (c : class w x ≡ labeled) (contexts : Contexts w p b x d m)

@@ -1,18 +1,19 @@
 -- What the walk keeps of each list when it stands at row x, as a function of x: the list's latest declaration and its latest label.
 -- Assumes nothing.
 use mathlib.Core.Path.{_≡_}
-use mathlib.Core.Bool.{_&&_}
+use mathlib.Core.Bool.{true, false, _&&_}
 use mathlib.Core.List.{List}
 use mathlib.Core.Option.{Option}
 use Prim.Native.Nat.{ℕ, _≤_, _<_}
-use lib.ListN.{length, getD}
+use lib.ListN.{length, getD, set}
 use Rattle.rules.specs.Scan.{highest}
 use Rattle.rules.specs.Rows.{rowCount}
-use Rattle.rules.specs.Scope.{listOf}
+use Rattle.rules.specs.Class.{class}
+use Rattle.rules.specs.Scope.{isBlock, listOf}
 use Rattle.rules.specs.Body.{Body}
 use Rattle.rules.specs.Labels.{is, isLabel, word}
 use Rattle.lists.specs.Listed.{Listed}
-use Rattle.branches.specs.Walk.{latestIn}
+use Rattle.branches.specs.Walk.{latestIn, currentLabel}
 
 -- at the row of each list l: `latest l x`, 1 + its row, or 0
 pub record ListTable (w : List ℕ) (latest : ℕ → ℕ → Option ℕ) (x : ℕ) (table : List ℕ) : Type 0 where
@@ -34,3 +35,8 @@ module _ (w p b : List ℕ) where
     pub body : Body w p b
     pub room : rowCount w ≤ length lists
     pub listed : Listed w lists
+
+  -- the links at row x and after it: a Block's own is set, every other row leaves them
+  pub record BlockLinked (x : ℕ) (links later : List ℕ) : Type 0 where
+    pub at-block : isBlock (class w x) ≡ true → later ≡ set links x (word (currentLabel w p b x))
+    pub elsewhere : isBlock (class w x) ≡ false → later ≡ links

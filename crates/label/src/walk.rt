@@ -4,17 +4,17 @@
 use context::Context;
 use rows::RowNumber;
 ghost use mathlib.Core.Path.{_≡_};
-ghost use mathlib.Core.Bool.{true};
+ghost use mathlib.Core.Bool.{true, _||_};
 ghost use Prim.Native.Nat.{suc, _-_, _≤_, _<_};
 ghost use lib.Dec.{eqb};
 ghost use lib.ListN.{length, getD, set};
-ghost use Rattle.rules.specs.Rows.{rowCount, detail};
+ghost use Rattle.rules.specs.Rows.{rowCount};
 ghost use Rattle.rules.specs.Class.{declaration, labeled, class};
 ghost use Rattle.rules.specs.Scope.{isBlock};
 ghost use Rattle.rules.specs.Labels.{isClass, word};
 ghost use Rattle.tables.specs.Canon.{Tables};
 ghost use Rattle.branches.specs.Walk.{currentLabel, latestIn, Walking, Walked};
-ghost use Rattle.label.specs.Contexts.{latestLabel, ListTable, Listing, Contexts};
+ghost use Rattle.label.specs.Contexts.{latestLabel, ListTable, Listing, Contexts, BlockLinked};
 
 fn wide(number: u16) -> usize
     ensures { λ r. ⌜ r ≡ number ⌝ }
@@ -33,7 +33,7 @@ fn context_of(latests: &[u16], labels: &[u16], list: usize) -> Context
     }
 }
 
-// A Decl or Assign: a VAR or := is the latest declaration of its list.
+// A VAR or :=, the latest declaration of its list from here on.
 fn decl_branches(
     rows: &[u32],
     pairs: &[u32],
@@ -45,15 +45,13 @@ fn decl_branches(
 )
     requires { ⌜ Listing (now rows) (now pairs) (now bytes) (now lists) ⌝ }
     requires { ⌜ Contexts (now rows) (now pairs) (now bytes) (row .0) (now latests) (now labels) ⌝ }
-    requires { ⌜ (row .0 < rowCount (now rows)) × (eqb (detail (now rows) (row .0)) 1 ≡ isClass (now rows) declaration (row .0)) ⌝ }
+    requires { ⌜ (row .0 < rowCount (now rows)) × (isClass (now rows) declaration (row .0) ≡ true) ⌝ }
     ensures { λ _. ⌜ ListTable (now (rows .entry)) (latestIn (now (rows .entry)) (now (pairs .entry)) (now (bytes .entry))) (suc (row .0)) (now (latests .exit)) ⌝ }
 {
-    if rows::detail(rows, row) == 1 {
-        let r = row.0;
-        let list = wide(lists[r]);
-        let ctx = context::declared(context_of(latests, labels, list), r + 1);
-        latests[list - 1] = ctx.latest as u16;
-    }
+    let r = row.0;
+    let list = wide(lists[r]);
+    let ctx = context::declared(context_of(latests, labels, list), r + 1);
+    latests[list - 1] = ctx.latest as u16;
 }
 
 // The label that a Block belongs to: the latest of its list, if the Block stands inside that
@@ -104,6 +102,46 @@ fn block_branches(
 {
     let r = row.0;
     links[r] = current_label(rows, pairs, bytes, lists, labels, row);
+}
+
+// Whether a row of this kind and detail 1 is a declaration: Decl or Assign.
+fn may_declare(kind: u32) -> bool
+    ensures { λ r. ⌜ r ≡ (eqb kind 1 || eqb kind 7) ⌝ }
+{
+    if kind == 1 {
+        return true;
+    }
+    kind == 7
+}
+
+// A row that is no label and no branch: a declaration, a Block, or one that changes nothing. Few
+// rows have detail 1, so that is asked first.
+fn plain_branches(
+    rows: &[u32],
+    pairs: &[u32],
+    bytes: &[u8],
+    lists: &[u16],
+    links: &mut [u16],
+    latests: &mut [u16],
+    labels: &[u16],
+    row: RowNumber,
+)
+    requires { ⌜ Listing (now rows) (now pairs) (now bytes) (now lists) ⌝ }
+    requires { ⌜ Contexts (now rows) (now pairs) (now bytes) (row .0) (now latests) (now labels) ⌝ }
+    requires { ⌜ (row .0 < rowCount (now rows)) × (rowCount (now rows) ≤ length (now links)) ⌝ }
+    ensures links { λ _. ⌜ BlockLinked (now (rows .entry)) (now (pairs .entry)) (now (bytes .entry)) (row .0) (now (links .entry)) (now (links .exit)) ⌝ }
+    ensures latests { λ _. ⌜ ListTable (now (rows .entry)) (latestIn (now (rows .entry)) (now (pairs .entry)) (now (bytes .entry))) (suc (row .0)) (now (latests .exit)) ⌝ }
+{
+    let kind = rows::kind(rows, row);
+    if rows::detail(rows, row) == 1 {
+        if may_declare(kind) {
+            decl_branches(rows, pairs, bytes, lists, latests, labels, row);
+        }
+        return;
+    }
+    if kind == 12 {
+        block_branches(rows, pairs, bytes, lists, labels, links, row);
+    }
 }
 
 // A Labeled row, the latest label of its list unless it is `_`. It answers the sheet's row count.
@@ -213,19 +251,10 @@ fn stmt_branches(
                 faults,
             );
         }
-        12 => {
-            block_branches(rows, pairs, bytes, lists, labels, links, row);
+        _ => {
+            plain_branches(rows, pairs, bytes, lists, links, latests, labels, row);
             return faults;
         }
-        1 => {
-            decl_branches(rows, pairs, bytes, lists, latests, labels, row);
-            return faults;
-        }
-        7 => {
-            decl_branches(rows, pairs, bytes, lists, latests, labels, row);
-            return faults;
-        }
-        _ => faults,
     }
 }
 

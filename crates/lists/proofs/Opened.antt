@@ -10,14 +10,14 @@ use native.Mathlib.Omega.{arith}
 use native.Mathlib.Decide.{decLt, ℕ-discrete}
 use lib.ListN.{length, set}
 use lib.Seq.{getD-set-same, getD-set-other}
-use Rattle.rules.specs.Rows.{end}
+use Rattle.rules.specs.Rows.{size, end}
 use Rattle.rules.specs.Class.{class}
 use Rattle.rules.specs.Scope.{holdsItems, innermost}
 use Rattle.rules.specs.Labels.{word}
 use Rattle.rules.proofs.Test.{case-found, clash}
 use Rattle.rules.proofs.Around.{innermost-found, innermost-last, innermost-none}
 use Rattle.rules.proofs.Lists.{found-innermost, none-innermost}
-use Rattle.lists.specs.Listed.{ListedBelow, Open}
+use Rattle.lists.specs.Listed.{ListedBelow, Open, EndsAt}
 
 module _ (w : List ℕ) where
   -- ---- what was found at row r
@@ -101,6 +101,20 @@ module _ (w : List ℕ) where
           },
           omega arith,
         )
+
+    -- while its end is not reached, the row in hand is the one to write
+    pub open-kept : (e : ℕ) → EndsAt w o e → r < e → o ≡ word (innermost w 0 holdsItems r)
+    open-kept e q l = elim (decLt 0 o) [
+      | yes h ↦ open-reaches h (omega (arith, q h))
+      | no n ↦ let z : o ≡ 0 = omega arith in z ∙ open-empty z
+    ]
+
+  -- ---- its end
+  pub ends-none : (e : ℕ) → EndsAt w 0 e
+  ends-none e h = absurd (omega arith)
+
+  pub ends-here : (r n : ℕ) → n ≡ size w r → EndsAt w (r + 1) (r + n)
+  ends-here r n q h = let e : r + 1 - 1 ≡ r = omega arith in rw e (omega arith)
 
   -- ---- the words
   pub listed-more : (l : List ℕ) (r v : ℕ) → r < length l → v ≡ word (innermost w 0 holdsItems r) → ListedBelow w l r → ListedBelow w (set l r v) (r + 1)

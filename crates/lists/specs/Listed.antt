@@ -23,3 +23,7 @@ pub record Open (w : List ℕ) (list r : ℕ) : Type 0 where
   pub before : list ≤ r
   pub holds : 0 < list → holdsItems (class w (list - 1)) ≡ true
   pub ended : (k : ℕ) → list ≤ k → k < r → holdsItems (class w k) ≡ true → end w k ≤ r
+
+-- `e` is where the row of `list` ends, unless `list` is 0
+abbrev pub EndsAt : List ℕ → ℕ → ℕ → Type 0
+EndsAt w list e = 0 < list → e ≡ end w (list - 1)

@@ -9,7 +9,7 @@ ghost use Rattle.rules.specs.Class.{detailAllowed, classOf};
 ghost use Rattle.rules.specs.Scope.{holdsItems, innermost};
 ghost use Rattle.rules.specs.Labels.{word};
 ghost use Rattle.rules.specs.Body.{Sized, Detailed, Nested};
-ghost use Rattle.lists.specs.Listed.{Open, ListedBelow, Listed};
+ghost use Rattle.lists.specs.Listed.{Open, EndsAt, ListedBelow, Listed};
 
 fn wide(number: u16) -> usize
     ensures { λ r. ⌜ r ≡ number ⌝ }
@@ -48,7 +48,20 @@ fn still_open(rows: &[u32], lists: &[u16], list: usize, r: usize) -> usize
     0
 }
 
-// Writes 1 + the innermost Block, Case or Comm around each row, or 0 where there is none.
+// Where the row of `list` ends (1 + its row), or where the body does if `list` is 0.
+fn end_of(rows: &[u32], list: usize) -> usize
+    requires { ⌜ Sized (now rows) × (list ≤ rowCount (now rows)) ⌝ }
+    ensures { λ r. ⌜ EndsAt (now (rows .entry)) list r ⌝ }
+{
+    if list == 0 {
+        return rows.len() / 5;
+    }
+    let row = list - 1;
+    row + rows::size(rows, RowNumber(row))
+}
+
+// Writes 1 + the innermost Block, Case or Comm around each row, or 0 where there is none. A list is
+// looked for only where the one in hand has ended.
 pub fn lists_of(rows: &[u32], lists: &mut [u16])
     requires { ⌜ Sized (now rows) × Detailed (now rows) × Nested (now rows) ⌝ }
     requires { ⌜ (rowCount (now rows) ≤ 2000) × (rowCount (now rows) ≤ length (now lists)) ⌝ }
@@ -56,12 +69,18 @@ pub fn lists_of(rows: &[u32], lists: &mut [u16])
 {
     let count = rows.len() / 5;
     let mut list = 0;
+    let mut end = count;
     let mut r = 0;
     while r < count {
-        list = still_open(rows, lists, list, r);
+        if end <= r {
+            list = still_open(rows, lists, list, r);
+            end = end_of(rows, list);
+        }
         lists[r] = list as u16;
-        if holds_items(rows::kind(rows, RowNumber(r))) {
+        let row = RowNumber(r);
+        if holds_items(rows::kind(rows, row)) {
             list = r + 1;
+            end = r + rows::size(rows, row);
         }
         r += 1;
     }

@@ -6,7 +6,7 @@ use mathlib.Core.List.{List}
 use Prim.Native.Nat.{ℕ, zero, suc, _+_, _-_, _≤_, _<_}
 use lib.Dec.{ltb, leb, eqb}
 use Rattle.rules.specs.Scan.{lowest, highest}
-use Rattle.rules.specs.Rows.{rowCount, name, size, end, Item}
+use Rattle.rules.specs.Rows.{rowCount, kind, name, size, end, Item}
 use Rattle.rules.specs.Class.{empty, labeled, break, isStatement, isBreakable, class}
 use Rattle.rules.specs.Names.{sameName}
 use Rattle.rules.specs.Scope.{onlyEmpty}
@@ -32,6 +32,10 @@ Statements w c e = (s : ℕ) → Item w e c s → isStatement (class w s) ≡ tr
 -- an Empty is one row
 abbrev pub OneRowEmpties : List ℕ → Type 0
 OneRowEmpties w = (r : ℕ) → r < rowCount w → class w r ≡ empty → size w r ≡ 1
+
+-- r is row c, or what was found before it if c is an Empty
+abbrev pub UnlessEmpty : List ℕ → ℕ → Found → Found → Type 0
+UnlessEmpty w c found r = (kind w c ≡ 2 → r ≡ found) × ((kind w c ≡ 2 → ⊥) → r ≡ At c)
 
 -- of the items from c on, before e, s is the last that is no Empty
 pub record Last (w : List ℕ) (c e s : ℕ) : Type 0 where

@@ -14,7 +14,7 @@ ghost use Rattle.rules.specs.Labels.{isClass};
 ghost use Rattle.rules.specs.Body.{Sized, Detailed, Body};
 ghost use Rattle.rules.specs.Calls.{verdictCall};
 ghost use Rattle.returns.specs.Given.{given};
-ghost use Rattle.returns.specs.Search.{labelNumber, Closed, Statements, OneRowEmpties, Lasts, isTerminating, isTerminatingList, leaves, anyLeaves};
+ghost use Rattle.returns.specs.Search.{labelNumber, Closed, Statements, OneRowEmpties, UnlessEmpty, Lasts, isTerminating, isTerminatingList, leaves, anyLeaves};
 
 pub enum Verdict {
     Refused(Refusal),
@@ -84,7 +84,19 @@ fn is_terminating_list(
     }
 }
 
-// The last item from `from` on, before `end`, that is no Empty.
+// The item unless it is an Empty; else the one found before it.
+fn unless_empty(rows: &[u32], item: RowNumber, found: Found) -> Found
+    requires { ⌜ item .0 < rowCount (now rows) ⌝ }
+    ensures { λ r. ⌜ UnlessEmpty (now (rows .entry)) (item .0) found r ⌝ }
+{
+    if rows::kind(rows, item) != 2 {
+        return Found::At(item.0);
+    }
+    found
+}
+
+// The last item from `from` on, before `end`, that is no Empty. Items of one row each are stepped
+// through in a loop of their own, which waits for no size.
 fn last_item(rows: &[u32], from: RowNumber, end: usize) -> Found
     requires { ⌜ Sized (now rows) × Detailed (now rows) × OneRowEmpties (now rows) × Closed (now rows) (from .0) end ⌝ }
     ensures { λ r. ⌜ Lasts (now (rows .entry)) (from .0) end r ⌝ }
@@ -92,11 +104,17 @@ fn last_item(rows: &[u32], from: RowNumber, end: usize) -> Found
     let mut last = Found::Nowhere;
     let mut c = from.0;
     while c < end {
-        let item = RowNumber(c);
-        if rows::kind(rows, item) != 2 {
-            last = Found::At(c);
+        last = unless_empty(rows, RowNumber(c), last);
+        let mut size = rows::size(rows, RowNumber(c));
+        while size == 1 {
+            c += 1;
+            if end <= c {
+                return last;
+            }
+            last = unless_empty(rows, RowNumber(c), last);
+            size = rows::size(rows, RowNumber(c));
         }
-        c = c + rows::size(rows, item);
+        c += size;
     }
     last
 }

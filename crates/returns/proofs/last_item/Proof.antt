@@ -1,14 +1,12 @@
 -- Each turn steps over one item. The invariant: the item kept is the last so far that is no Empty, and all rows since are Empty; an Empty is one row.
--- The measure is what is left of the rows.
+-- In the inner loop it holds at the end of the item at c, whose size is in hand. The measure of both is what is left of the rows.
 -- Assumes nothing.
 use mathlib.Core.Path.{_≡_, sym, _∙_}
 use mathlib.Core.List.{List}
-use mathlib.Core.Logic.{⊎-elim}
 use Prim.Native.Nat.{ℕ, _+_, _-_, _≤_, _<_}
 use native.Mathlib.Omega.{arith}
 use native.Mathlib.Decide.{ℕ-discrete}
 use lib.Dec.{eqb}
-use borrow.Author.Needs.{needs}
 use borrow.Author.Tests.{eq-eqb, ne-eqb}
 use Rattle.rules.specs.Rows.{rowCount, kind, size, end, Item, here}
 use Rattle.rules.specs.Class.{empty, class}
@@ -20,7 +18,7 @@ use Rattle.rules.proofs.Nesting.{item-next}
 use Rattle.rules.proofs.Around.{AllEmpty, all-empty}
 use Rattle.names.specs.declared.Found.{Found}
 use Rattle.names.specs.declared.Found.the-variants.{At, Nowhere}
-use Rattle.returns.specs.Search.{Closed, OneRowEmpties, Lasts}
+use Rattle.returns.specs.Search.{Closed, OneRowEmpties, UnlessEmpty, Lasts}
 use Rattle.returns.proofs.ByWords.{empty-kind}
 use Rattle.returns.proofs.last_item.Statement.{statement}
 use Rattle.returns.proofs.last_item.Tie as tie
@@ -71,9 +69,20 @@ module _ {w : List ℕ} {b e : ℕ} where
           kept = rw q (more last (one c (omega arith) e) e (a .kept));
         }
 
+    -- so c is stepped over
+    step : OneRowEmpties w → {n : ℕ} {found : Found} → n ≡ size w c → UnlessEmpty w c last found → Walk w b e found (c + n)
+    step one q (same, other) = elim (ℕ-discrete (kind w c) 2) [ yes k ↦ rw (same k) (passed one q k) | no k ↦ rw (other k) (full q k) ]
+
   ended : (last : Found) {c : ℕ} → Walk w b e last c → e ≤ c → Lasts w b e last
   ended (At s) a l = let (i, f, g) = a .kept in record { item = i; no-empty = f; rest = all-empty w 0 (end w s) e (λ k m n. g k m (omega arith)) }
   ended Nowhere a l = all-empty w 0 b e (λ k m n. a .kept k m (omega arith))
+
+abbrev Inv-loop2 : tie.InvT-loop2
+Inv-loop2 rows end last₀ c₀ size₀ last c size =
+    (c₀ ≤ c) × (c < end) × (1 ≤ size) × (c + size ≤ rowCount rows) × ((b : ℕ) → Walk rows b end last₀ (c₀ + size₀) → Walk rows b end last (c + size))
+
+abbrev μ-loop2 : tie.MeasureT-loop2
+μ-loop2 rows end last₀ c₀ size₀ last c size = end - c
 
 abbrev Inv-loop : tie.InvT-loop
 Inv-loop rows end last₀ c₀ last c = Walk rows c₀ end last c
@@ -81,37 +90,93 @@ Inv-loop rows end last₀ c₀ last c = Walk rows c₀ end last c
 abbrev μ-loop : tie.MeasureT-loop
 μ-loop rows end last₀ c₀ last c = end - c
 
-loop-holds : tie.Need-loop-holds Inv-loop μ-loop
+loop-holds : tie.Need-loop-holds Inv-loop2 μ-loop2 Inv-loop μ-loop
 loop-holds c = begin (c .before .pre .3)
 
-kind-requires : tie.Need-kind-requires Inv-loop μ-loop
-kind-requires c κs = search needs
+unless-empty-requires : tie.Need-unless-empty-requires Inv-loop2 μ-loop2 Inv-loop μ-loop
+unless-empty-requires c κs = omega (arith, c .before .loop .inv .within)
 
-size-requires : tie.Need-size-requires Inv-loop μ-loop
-size-requires c κs = search needs
+size-requires : tie.Need-size-requires Inv-loop2 μ-loop2 Inv-loop μ-loop
+size-requires c κs = omega (arith, c .before .before .loop .inv .within)
 
-add-c : tie.Need-add-c Inv-loop μ-loop
-add-c c =
-    let p = c .before .before .before in
-    omega (arith, p .before .before .before .pre .0 .within (p .before .loop .c) (omega (arith, p .before .loop .inv .within)))
+-- the first item of the turn is stepped over
+stepped : (c : tie.After-size Inv-loop2 μ-loop2 Inv-loop μ-loop) →
+    let l = c .before .before .before in
+    let s = l .before .before in Walk (s .args .rows .now) (s .args .from .0) (s .args .end) (c .before .unless-empty .result) (l .loop .c + c .size .result)
+stepped c =
+    let l = c .before .before .before in
+    let s = l .before .before in
+    step (s .pre .1) (l .loop .inv) (c .before .before .loop-test .taken) (s .pre .2) (c .size .ensures) (c .before .unless-empty .ensures)
 
-loop-less : tie.Need-loop-less Inv-loop μ-loop
-loop-less c =
-    let p = c .before .before .before in
-    omega (arith, p .before .before .before .pre .0 .some-rows (p .before .loop .c) (omega (arith, p .before .loop .inv .within)))
+loop2-holds : tie.Need-loop2-holds Inv-loop2 μ-loop2 Inv-loop μ-loop
+loop2-holds c =
+    let l = c .before .before .before in
+    let sized = l .before .before .pre .0 in
+    let h : l .loop .c < rowCount (l .before .before .args .rows .now) = omega (arith, l .loop .inv .within) in
+    (omega arith, omega arith, omega (arith, sized .some-rows (l .loop .c) h), omega (arith, sized .within (l .loop .c) h), λ b v. v)
 
-loop-again : tie.Need-loop-again Inv-loop μ-loop
-loop-again c =
-    let p = c .before .before .before in
-    let s = p .before .before .before in
-    let k = c .before .before .kind .ensures in
-    ⊎-elim
-    (λ x. rw (x .1) (full (s .pre .1) (p .before .loop .inv) (p .loop-test .taken) (c .size .ensures) (λ z. x .0 .taken (k ∙ z))))
-    (λ x. rw (x .1) (passed (s .pre .1) (p .before .loop .inv) (p .loop-test .taken) (s .pre .2) (c .size .ensures) (sym k ∙ x .0 .left)))
-    (c .before .if1 .came)
+add-c : tie.Need-add-c Inv-loop2 μ-loop2 Inv-loop μ-loop
+add-c c = omega arith
 
-returns : tie.Need-returns Inv-loop μ-loop
-returns c = ended _ (c .before .loop .inv) (c .loop-test .left)
+-- the inner loop holds the state at the end of its item
+at-item : (c : tie.At-loop2 Inv-loop2 μ-loop2 Inv-loop μ-loop) →
+    let s = c .before .before .before .before .before .before in
+    Walk (s .args .rows .now) (s .args .from .0) (s .args .end) (c .loop2 .last) (c .loop2 .c + c .loop2 .size)
+at-item c = c .loop2 .inv .4 _ (stepped (c .before))
+
+returns : tie.Need-returns Inv-loop2 μ-loop2 Inv-loop μ-loop
+returns c = ended _ (at-item (c .before .before)) (omega arith)
+
+unless-empty-requires-2 : tie.Need-unless-empty-requires-2 Inv-loop2 μ-loop2 Inv-loop μ-loop
+unless-empty-requires-2 c κs = omega (arith, at-item (c .before .before) .within)
+
+size-requires-2 : tie.Need-size-requires-2 Inv-loop2 μ-loop2 Inv-loop μ-loop
+size-requires-2 c κs = omega (arith, at-item (c .before .before .before) .within)
+
+loop2-less : tie.Need-loop2-less Inv-loop2 μ-loop2 Inv-loop μ-loop
+loop2-less c = omega arith
+
+loop2-again : tie.Need-loop2-again Inv-loop2 μ-loop2 Inv-loop μ-loop
+loop2-again c =
+    let i = c .before .before in
+    let l = i .before .before in
+    let s = l .before .before .before .before .before .before in
+    let n = l .loop2 .c in
+    let more : n + 1 < s .args .end = omega arith in
+    let h : n + 1 < rowCount (s .args .rows .now) = omega (arith, at-item l .within) in
+    (omega arith, omega arith, omega (arith, s .pre .0 .some-rows (n + 1) h), omega (arith, s .pre .0 .within (n + 1) h), λ b v. step (s .pre .1) (rw (i .before .loop2-test .taken) at (l .loop2 .inv .4 b v)) more (s .pre .2) (c .size2 .ensures) (c .before .unless-empty2 .ensures))
+
+add-c-2 : tie.Need-add-c-2 Inv-loop2 μ-loop2 Inv-loop μ-loop
+add-c-2 c = omega arith
+
+loop-less : tie.Need-loop-less Inv-loop2 μ-loop2 Inv-loop μ-loop
+loop-less c = omega arith
+
+loop-again : tie.Need-loop-again Inv-loop2 μ-loop2 Inv-loop μ-loop
+loop-again c = at-item (c .before)
+
+returns-2 : tie.Need-returns-2 Inv-loop2 μ-loop2 Inv-loop μ-loop
+returns-2 c = ended _ (c .before .loop .inv) (c .loop-test .left)
 
 pub last-item-spec : {M : Type 1} → statement M
-last-item-spec = tie.close (tie.spec Inv-loop μ-loop loop-holds kind-requires size-requires add-c loop-less loop-again returns)
+last-item-spec =
+    tie.close
+    (tie.spec
+    Inv-loop2
+    μ-loop2
+    Inv-loop
+    μ-loop
+    loop-holds
+    unless-empty-requires
+    size-requires
+    loop2-holds
+    add-c
+    returns
+    unless-empty-requires-2
+    size-requires-2
+    loop2-less
+    loop2-again
+    add-c-2
+    loop-less
+    loop-again
+    returns-2)

@@ -1,13 +1,10 @@
--- The detail says whether the row is a declaration. If so, it is the latest of its list, which is a row before it: `declared` puts it into the list's context. If not, the table stays.
+-- The row is the latest declaration of its list, which is a row before it: `declared` puts it into the list's context.
 -- Assumes nothing.
 use native.Mathlib.Omega.{arith}
 use borrow.Author.Needs.{needs}
-use Rattle.label.proofs.TableSteps.{not-declared, declared-list, declared-fits, declared}
+use Rattle.label.proofs.TableSteps.{declared-list, declared-fits, declared}
 use Rattle.label.proofs.walk.decl_branches.Statement.{statement}
 use Rattle.label.proofs.walk.decl_branches.Tie as tie
-
-detail-requires : tie.Need-detail-requires
-detail-requires c κs = search needs
 
 mul-wide : tie.Need-mul-wide
 mul-wide c = search needs
@@ -20,9 +17,9 @@ wide-requires c κs = search needs
 
 context-of-requires : tie.Need-context-of-requires
 context-of-requires c κs =
-    let s = c .before .before .before .before .before .before .before .before .before .before .before in
+    let s = c .before .before .before .before .before .before .before .before .before in
     let i = s .pre .1 .1 in
-    declared-list (s .pre .0) _ (i .0) (s .pre .1 .0) (i .1) _ (c .before .before .before .before .detail .ensures) (c .before .before .before .if1 .taken) _ (c .before .wide .ensures)
+    declared-list (s .pre .0) _ (i .0) (s .pre .1 .0) (i .1) _ (c .before .wide .ensures)
 
 add-declared : tie.Need-add-declared
 add-declared c = search needs
@@ -32,27 +29,27 @@ declared-requires c κs = search needs
 
 cast-latests : tie.Need-cast-latests
 cast-latests c =
-    let s = c .before .before .before .before .before .before .before .before .before .before .before .before .before .before in
+    let s = c .before .before .before .before .before .before .before .before .before .before .before .before in
     let i = s .pre .1 .1 in
-    omega (arith, declared-fits (s .pre .0) _ (i .0) (s .pre .1 .0) (i .1) _ (c .before .before .before .before .before .before .before .detail .ensures) (c .before .before .before .before .before .before .if1 .taken) _ (c .before .before .before .before .wide .ensures) (c .before .before .context-of .result) _ (c .before .declared .ensures))
+    omega (arith, declared-fits (s .pre .0) _ (i .0) (s .pre .1 .0) (i .1) _ (c .before .before .before .before .wide .ensures) (c .before .before .context-of .result) _ (c .before .declared .ensures))
 
 sub-latests : tie.Need-sub-latests
 sub-latests c =
-    let s = c .before .before .before .before .before .before .before .before .before .before .before .before .before .before in
+    let s = c .before .before .before .before .before .before .before .before .before .before .before .before in
     let i = s .pre .1 .1 in
-    omega (arith, declared-list (s .pre .0) _ (i .0) (s .pre .1 .0) (i .1) _ (c .before .before .before .before .before .before .before .detail .ensures) (c .before .before .before .before .before .before .if1 .taken) _ (c .before .before .before .before .wide .ensures) .0)
+    omega (arith, declared-list (s .pre .0) _ (i .0) (s .pre .1 .0) (i .1) _ (c .before .before .before .before .wide .ensures) .0)
 
 mul-latests : tie.Need-mul-latests
 mul-latests c =
-    let s = c .before .before .before .before .before .before .before .before .before .before .before .before .before .before in
+    let s = c .before .before .before .before .before .before .before .before .before .before .before .before in
     let i = s .pre .1 .1 in
-    omega (arith, declared-list (s .pre .0) _ (i .0) (s .pre .1 .0) (i .1) _ (c .before .before .before .before .before .before .before .detail .ensures) (c .before .before .before .before .before .before .if1 .taken) _ (c .before .before .before .before .wide .ensures) .1)
+    omega (arith, declared-list (s .pre .0) _ (i .0) (s .pre .1 .0) (i .1) _ (c .before .before .before .before .wide .ensures) .1)
 
 slice-write-latests : tie.Need-slice-write-latests
 slice-write-latests c =
-    let s = c .before .before .before .before .before .before .before .before .before .before .before .before .before .before in
+    let s = c .before .before .before .before .before .before .before .before .before .before .before .before in
     let i = s .pre .1 .1 in
-    let l = declared-list (s .pre .0) _ (i .0) (s .pre .1 .0) (i .1) _ (c .before .before .before .before .before .before .before .detail .ensures) (c .before .before .before .before .before .before .if1 .taken) _ (c .before .before .before .before .wide .ensures) in
+    let l = declared-list (s .pre .0) _ (i .0) (s .pre .1 .0) (i .1) _ (c .before .before .before .before .wide .ensures) in
     omega (arith, l .0, l .2)
 
 same-length : tie.Need-same-length
@@ -60,21 +57,14 @@ same-length c = search needs
 
 returns : tie.Need-returns
 returns c =
-    let s = c .before .before .before .before .before .before .before .before .before .before .before .before .before .before in
+    let s = c .before .before .before .before .before .before .before .before .before .before .before .before in
     let i = s .pre .1 .1 in
-    declared (s .pre .0) _ (i .0) (s .pre .1 .0) (i .1) _ (c .before .before .before .before .before .before .before .detail .ensures) (c .before .before .before .before .before .before .if1 .taken) _ (c .before .before .before .before .wide .ensures) (c .before .before .context-of .result) _ (c .before .declared .ensures)
-
-returns-2 : tie.Need-returns-2
-returns-2 c =
-    let s = c .before .before .before .before .before .before .before .before in
-    let i = s .pre .1 .1 in
-    not-declared (s .pre .0) _ (i .0) (s .pre .1 .0) (i .1) _ (c .before .detail .ensures) (c .if1 .left)
+    declared (s .pre .0) _ (i .0) (s .pre .1 .0) (i .1) _ (c .before .before .before .before .wide .ensures) (c .before .before .context-of .result) _ (c .before .declared .ensures)
 
 pub decl-branches-spec : {M : Type 1} → statement M
 decl-branches-spec =
     tie.close
     (tie.spec
-    detail-requires
     mul-wide
     shared-slice-read-wide
     wide-requires
@@ -86,5 +76,4 @@ decl-branches-spec =
     mul-latests
     slice-write-latests
     same-length
-    returns
-    returns-2)
+    returns)

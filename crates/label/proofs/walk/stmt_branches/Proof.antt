@@ -2,7 +2,7 @@
 -- Assumes nothing.
 use mathlib.Core.Path.{refl}
 use borrow.Author.Needs.{needs}
-use Rattle.label.proofs.RowSteps.{labeled-asks, labeled-gives, branch-asks, branch-gives, block-asks, block-gives, decl-asks, decl-gives, assign-asks, assign-gives, other-gives}
+use Rattle.label.proofs.RowSteps.{labeled-asks, labeled-gives, branch-asks, branch-gives, plain-asks, plain-gives}
 use Rattle.label.proofs.walk.stmt_branches.Statement.{statement}
 use Rattle.label.proofs.walk.stmt_branches.Tie as tie
 
@@ -59,58 +59,24 @@ returns-2 c =
     let s = c .before .before .before .before .before .before .before .before .before .before .before .before .before .before .before .before .before .before .before .before .before .before .before .before .before .before .before in
     branch-gives (s .pre .0) _ (s .pre .1 .1 .1) (s .pre .1 .0) (s .pre .1 .1 .0) _ (c .before .before .before .before .before .before .before .before .before .before .before .before .before .before .kind .ensures) (c .before .before .before .before .before .before .before .before .before .before .before .before .before .match .keys2) (c .before .before .before .before .before .before .before .before .jump-branches .ensures)
 
-block-branches-requires : tie.Need-block-branches-requires
-block-branches-requires c κs =
-    let s = c .before .before .before .before .before .before .before .before .before .before .before .before .before .before .before .before in
-    block-asks (s .pre .0) _ (s .pre .1 .1 .1) (s .pre .1 .0) (s .pre .1 .1 .0) _ (c .before .before .before .kind .ensures) (c .before .before .match .keys3)
+plain-branches-requires : tie.Need-plain-branches-requires
+plain-branches-requires c κs =
+    let s = c .before .before .before .before .before .before .before .before .before .before .before .before .before .before .before .before .before in
+    plain-asks (s .pre .0) _ (s .pre .1 .1 .1) (s .pre .1 .0) (s .pre .1 .1 .0) _ (c .before .before .before .before .kind .ensures)
 
 same-length-11 : tie.Need-same-length-11
-same-length-11 c = c .before .links2 .given
+same-length-11 c = c .before .before .before .links2 .given
 
 same-length-12 : tie.Need-same-length-12
-same-length-12 c = refl
+same-length-12 c = c .before .latests .given
+
+same-length-13 : tie.Need-same-length-13
+same-length-13 c = refl
 
 returns-3 : tie.Need-returns-3
 returns-3 c =
-    let s = c .before .before .before .before .before .before .before .before .before .before .before .before .before .before .before .before .before .before .before in
-    block-gives (s .pre .0) _ (s .pre .1 .1 .1) (s .pre .1 .0) (s .pre .1 .1 .0) _ (c .before .before .before .before .before .before .kind .ensures) (c .before .before .before .before .before .match .keys3) (c .before .before .block-branches .ensures)
-
-decl-branches-requires : tie.Need-decl-branches-requires
-decl-branches-requires c κs =
-    let s = c .before .before .before .before .before .before .before .before .before .before .before .before .before .before .before .before in
-    decl-asks (s .pre .0) _ (s .pre .1 .1 .1) (s .pre .1 .0) (s .pre .1 .1 .0) _ (c .before .before .before .kind .ensures) (c .before .before .match .keys4)
-
-same-length-13 : tie.Need-same-length-13
-same-length-13 c = c .before .latests .given
-
-same-length-14 : tie.Need-same-length-14
-same-length-14 c = refl
-
-returns-4 : tie.Need-returns-4
-returns-4 c =
-    let s = c .before .before .before .before .before .before .before .before .before .before .before .before .before .before .before .before .before .before .before in
-    decl-gives (s .pre .0) _ (s .pre .1 .1 .1) (s .pre .1 .0) (s .pre .1 .1 .0) _ (c .before .before .before .before .before .before .kind .ensures) (c .before .before .before .before .before .match .keys4) (c .before .before .decl-branches .ensures)
-
-decl-branches-requires-2 : tie.Need-decl-branches-requires-2
-decl-branches-requires-2 c κs =
-    let s = c .before .before .before .before .before .before .before .before .before .before .before .before .before .before .before .before in
-    assign-asks (s .pre .0) _ (s .pre .1 .1 .1) (s .pre .1 .0) (s .pre .1 .1 .0) _ (c .before .before .before .kind .ensures) (c .before .before .match .keys5)
-
-same-length-15 : tie.Need-same-length-15
-same-length-15 c = c .before .latests2 .given
-
-same-length-16 : tie.Need-same-length-16
-same-length-16 c = refl
-
-returns-5 : tie.Need-returns-5
-returns-5 c =
-    let s = c .before .before .before .before .before .before .before .before .before .before .before .before .before .before .before .before .before .before .before in
-    assign-gives (s .pre .0) _ (s .pre .1 .1 .1) (s .pre .1 .0) (s .pre .1 .1 .0) _ (c .before .before .before .before .before .before .kind .ensures) (c .before .before .before .before .before .match .keys5) (c .before .before .decl-branches2 .ensures)
-
-returns-6 : tie.Need-returns-6
-returns-6 c =
-    let s = c .before .before .before .before .before .before .before .before .before .before .before .before .before .before in
-    other-gives (s .pre .0) _ (s .pre .1 .1 .1) (s .pre .1 .0) (s .pre .1 .1 .0) _ (c .before .kind .ensures) (c .match .rest)
+    let s = c .before .before .before .before .before .before .before .before .before .before .before .before .before .before .before .before .before .before .before .before .before .before in
+    plain-gives (s .pre .0) _ (s .pre .1 .1 .1) (s .pre .1 .0) (s .pre .1 .1 .0) _ (c .before .before .before .before .before .before .before .before .before .kind .ensures) (c .before .before .before .before .before .before .before .before .match .rest) (c .before .before .before .before .plain-branches .ensures)
 
 pub stmt-branches-spec : {M : Type 1} → statement M
 stmt-branches-spec =
@@ -131,16 +97,8 @@ stmt-branches-spec =
     same-length-9
     same-length-10
     returns-2
-    block-branches-requires
+    plain-branches-requires
     same-length-11
     same-length-12
-    returns-3
-    decl-branches-requires
     same-length-13
-    same-length-14
-    returns-4
-    decl-branches-requires-2
-    same-length-15
-    same-length-16
-    returns-5
-    returns-6)
+    returns-3)
