@@ -6,10 +6,11 @@ use mathlib.Core.List.{List, []}
 use Prim.Native.Nat.{ℕ, suc, _<_}
 use native.Mathlib.Omega.{arith}
 use Rattle.rules.specs.Rows.{rowCount, end}
+use Rattle.rules.specs.Names.{pairCount}
 use Rattle.rules.specs.Class.{goto, class}
 use Rattle.rules.specs.Body.{Body}
 use Rattle.rules.specs.Labels.{isLabel, labelledBreak, binding, sheet}
-use Rattle.rules.proofs.RowNames.{labeled-named, goto-named}
+use Rattle.rules.proofs.RowNames.{labeled-named, goto-named, name-within}
 use Rattle.rules.proofs.LabelRows.{other-label}
 use Rattle.rules.proofs.BreakRows.{not-labelled}
 use Rattle.rules.proofs.BindingRows.{binding-other}
@@ -17,6 +18,10 @@ use Rattle.rules.proofs.SheetRows.{report-other, unresolved-not, unused-none, n
 use Rattle.branches.proofs.CanonRows.{body-end}
 use Rattle.branches.proofs.WalkPending.{pending-other}
 use Rattle.label.specs.Answered.{NoName}
+
+-- without names in the table no row has one
+pub no-pairs : {w p b : List ℕ} → Body w p b → pairCount p ≡ 0 → NoName w
+no-pairs body z r h = omega (arith, name-within body r h)
 
 module _ {w p b : List ℕ} (body : Body w p b) (n : NoName w) where
   no-label : (r : ℕ) → r < rowCount w → isLabel w p b 0 r ≡ false

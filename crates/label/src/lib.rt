@@ -194,6 +194,9 @@ fn faults(
     ensures { λ r. ⌜ Answered (now (rows .entry)) (now (pairs .entry)) (now (bytes .entry)) r (now (sheet .entry)) (now (bindings .entry)) (now (sheet .exit)) (now (bindings .exit)) ⌝ }
 {
     clear(bindings, rows.len() / 5);
+    if pairs.len() < 2 {
+        return 0;
+    }
     if no_names(rows) {
         return 0;
     }
