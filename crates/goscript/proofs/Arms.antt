@@ -95,7 +95,7 @@ arm for = one-part refl
 arm forCond = one-part refl
 arm ifElse = two-parts refl
 
--- ---- A
+-- ---- A: after a labelled statement the current label stays or, mended, the one before it is put back
 module _ (build : Build) (lstmt : Option ℕ) (s : State) where
   pub stays : build .A ≡ original → afterLabeled build lstmt s ≡ s
   stays q = rw (q, afterLabeled)
