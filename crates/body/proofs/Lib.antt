@@ -1,4 +1,7 @@
+pub mod AnyPairs
 pub mod Deeper
+pub mod Going
 pub mod Items
-pub mod Parents
-pub mod Passing
+pub mod Listing
+pub mod PartsFit
+pub mod RightRows

@@ -7,6 +7,7 @@ use names::Found;
 use rows::RowNumber;
 ghost use mathlib.Core.Path.{_≡_};
 ghost use mathlib.Core.Bool.{Bool, true, false, not};
+ghost use mathlib.Core.List.{List};
 ghost use mathlib.Core.Option.{none};
 ghost use Prim.Native.Nat.{ℕ, _<_};
 ghost use Rattle.rules.specs.Scan.{lowest};
@@ -73,10 +74,10 @@ fn name_allowed(kind: u32, detail: u32, pair_count: usize, name: usize) -> bool
     name == 0
 }
 
-// Whether the row's kind, detail, position and name are allowed.
-pub fn row_allowed(rows: &[u32], pairs: &[u32], row: RowNumber) -> bool
+// Whether the row's kind, detail, position and name are allowed, where there are so many pairs.
+pub fn row_allowed(rows: &[u32], pair_count: usize, row: RowNumber) -> bool
     requires { ⌜ row .0 < rowCount (now rows) ⌝ }
-    ensures { λ r. ⌜ r ≡ not (badRow (now (rows .entry)) (now (pairs .entry)) (row .0)) ⌝ }
+    ensures { λ r. ⌜ ((p : List ℕ) → pairCount p ≡ «pair_count» → r ≡ not (badRow (now (rows .entry)) p (row .0))) ⌝ }
 {
     let kind = rows::kind(rows, row);
     let detail = rows::detail(rows, row);
@@ -87,7 +88,7 @@ pub fn row_allowed(rows: &[u32], pairs: &[u32], row: RowNumber) -> bool
         return false;
     }
     let name = rows::name(rows, row);
-    name_allowed(kind, detail, pairs.len() / 2, name.0)
+    name_allowed(kind, detail, pair_count, name.0)
 }
 
 // Cause 4.
@@ -97,7 +98,7 @@ fn first_bad_row(rows: &[u32], pairs: &[u32]) -> Found
     let count = rows.len() / 5;
     let mut r = 0;
     while r < count {
-        if !row_allowed(rows, pairs, RowNumber(r)) {
+        if !row_allowed(rows, pairs.len() / 2, RowNumber(r)) {
             return Found::At(r);
         }
         r += 1;

@@ -1,13 +1,10 @@
 // Runs of plain items in a list: rows of a kind with nothing below it and no name. Most rows of most
 // bodies are such, and take fewer tests than the others.
 use rows::RowNumber;
-use shape::Holding;
 ghost use mathlib.Core.Path.{_≡_};
 ghost use mathlib.Core.Bool.{true};
 ghost use Prim.Native.Nat.{_≤_, _<_};
 ghost use Rattle.rules.specs.Rows.{rowCount};
-ghost use Rattle.rules.specs.Refusals.{statements};
-ghost use Rattle.shape.specs.Held.{held};
 ghost use Rattle.body.specs.Plain.{PlainItem, PlainItems};
 
 // Whether the row is such an item, and its words are as they have to be.
@@ -35,7 +32,7 @@ fn plain_item(rows: &[u32], row: RowNumber) -> bool
 }
 
 // The first row from `from` on, before `end`, that is no such item.
-fn end_of_items(rows: &[u32], from: usize, end: usize) -> usize
+pub fn end_of_items(rows: &[u32], from: usize, end: usize) -> usize
     requires { ⌜ (from ≤ end) × (end ≤ rowCount (now rows)) ⌝ }
     ensures { λ r. ⌜ PlainItems (now (rows .entry)) from r end ⌝ }
 {
@@ -47,15 +44,4 @@ fn end_of_items(rows: &[u32], from: usize, end: usize) -> usize
         c += 1;
     }
     c
-}
-
-// The same among the children of a row that holds this: `from` where they are no list.
-pub fn after_items(rows: &[u32], holding: Holding, from: usize, end: usize) -> usize
-    requires { ⌜ (from ≤ end) × (end ≤ rowCount (now rows)) ⌝ }
-    ensures { λ r. ⌜ PlainItems (now (rows .entry)) from r end × (from < r → held holding ≡ statements) ⌝ }
-{
-    match holding {
-        Holding::Statements => end_of_items(rows, from, end),
-        _ => from,
-    }
 }

@@ -30,7 +30,7 @@ use Rattle.rules.proofs.Around.{around-true, true-around, Innermost, innermost-
 use Rattle.rules.proofs.LabelRows.{is-labels}
 use Rattle.branches.specs.Walk.{currentLabel}
 use Rattle.tables.specs.Canon.{rowCanon}
-use Rattle.branches.proofs.CanonRows.{label-class, labels-canon, body-end}
+use Rattle.tables.proofs.Labelling.{label-class, labels-canon, body-end}
 
 -- ---- rules of the classes
 

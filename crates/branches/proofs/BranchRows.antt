@@ -20,7 +20,7 @@ use Rattle.rules.proofs.ClassTests.{break-branch}
 use Rattle.rules.proofs.Lists.{own-branch, own-breakable, own-loop, by-words}
 use Rattle.rules.proofs.Found.{word-found}
 use Rattle.rules.proofs.BreakRows.{valid-found, valid-none}
-use Rattle.branches.proofs.CanonRows.{label-class}
+use Rattle.tables.proofs.Labelling.{label-class}
 use Rattle.branches.proofs.BlockLabels.{target-label}
 
 -- ---- the detail

@@ -27,7 +27,7 @@ use Rattle.rules.proofs.BindingRows.{branch-label, binding-break, binding-inval
 use Rattle.rules.proofs.SheetRows.{report-valid, report-break, report-continue, report-fallthrough, report-other}
 use Rattle.tables.specs.Canon.{Tables}
 use Rattle.branches.specs.Walk.{bindingAt, Walking, Walked}
-use Rattle.branches.proofs.CanonRows.{row-canon-within}
+use Rattle.tables.proofs.Labelling.{row-canon-within}
 use Rattle.branches.proofs.TableRows.{canon-read, declared-read}
 use Rattle.branches.proofs.BlockLabels.{target-named}
 use Rattle.branches.proofs.BranchRows.{zero-break, not-zero-continue, break-detail}
@@ -190,10 +190,10 @@ module _ {w p b cs ds ls : List ℕ} (t : Tables w p b cs ds ls) (x faults : ℕ
             (pending-own w p b x c no-earlier) (sym (canon-read t x d row ed) ∙ y) goto-block
 
         pub goto-place : d < length h
-        goto-place = omega (arith, walking .heads-room, row-canon-within (t .body) x row, canon-read t x d row ed)
+        goto-place = omega (arith, walking .heads-room, row-canon-within w p b x, canon-read t x d row ed)
 
         pub goto-pending : (d ≡ 0 → ⊥) → Walked w p b (suc x) faults s bs s bs (set h d (x + 1)) (set l x (getD h d 0))
         goto-pending y =
             let e = canon-read t x d row ed in
             rw (e, add-one x) (walked-pending w p b x faults s bs h l row goto-label walking faults s bs goto-written
-            (pending-own w p b x c no-earlier) (omega arith) (row-canon-within (t .body) x row) goto-block)
+            (pending-own w p b x c no-earlier) (omega arith) (row-canon-within w p b x) goto-block)

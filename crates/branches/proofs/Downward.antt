@@ -17,7 +17,7 @@ use Rattle.rules.proofs.Test.{case-of, case-found, clash}
 use Rattle.rules.proofs.Scan.{highest-found}
 use Rattle.rules.proofs.Each.{each-zero, each-suc}
 use Rattle.branches.specs.Chain.{Chain, ended, linked, three, threes, stored}
-use Rattle.branches.proofs.WalkPending.{highest-same, highest-yes, highest-no}
+use Rattle.rules.proofs.Scan.{highest-same, highest-yes, highest-no}
 
 unfoldable pub down : (ℕ → Bool) → ℕ → List ℕ
 down Q zero = []

@@ -19,6 +19,7 @@ use Rattle.rules.specs.Names.{pairCount}
 use Rattle.rules.specs.Scope.{isList, isBlock, listOf, inListOf}
 use Rattle.rules.specs.Labels.{each, isLabel, labels, latestDeclaration, pending, jumpsOver, word}
 use Rattle.rules.proofs.Test.{case-of, case-found, clash, and-true}
+use Rattle.rules.proofs.Scan.{highest-same}
 use Rattle.rules.proofs.Each.{none-only}
 use Rattle.rules.proofs.ClassTests.{one-is}
 use Rattle.rules.proofs.Every.{is-one}
@@ -28,10 +29,10 @@ use Rattle.rules.proofs.SheetRows.{isOver, is-over, jumps-none, jumps-some}
 use Rattle.tables.specs.Canon.{rowCanon, Tables}
 use Rattle.branches.specs.Walk.{previousPending, bindingAt, Walking}
 use Rattle.branches.specs.Chain.{Chain, three, threes}
-use Rattle.branches.proofs.CanonRows.{body-end, label-class, label-numbered, row-canon-within, labels-canon, canon-labels}
+use Rattle.tables.proofs.Labelling.{body-end, label-class, label-numbered, row-canon-within, labels-canon, canon-labels}
 use Rattle.branches.proofs.TableRows.{list-read}
 use Rattle.branches.proofs.WalkBindings.{later-found, later-kept, binding-same, at-goto, at-later, at-other}
-use Rattle.branches.proofs.WalkPending.{highest-same, waits, pending-same, pending-found, pending-other, previous-not}
+use Rattle.branches.proofs.WalkPending.{waits, pending-same, pending-found, pending-other, previous-not}
 use Rattle.branches.proofs.Downward.{down, onward, chain-down, each-down, highest-cut}
 
 -- the conjunction with a test that fails
@@ -56,7 +57,7 @@ module _ {w p b cs ds ls : List ℕ} (tables : Tables w p b cs ds ls) (x : ℕ) 
   numbered-row = label-numbered (tables .body) x row label
 
   pub canon-in : rowCanon w p b x ≤ pairCount p
-  canon-in = row-canon-within (tables .body) x row
+  canon-in = row-canon-within w p b x
 
   -- ---- its list
   after-root : 0 < x

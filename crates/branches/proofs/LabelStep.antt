@@ -25,7 +25,7 @@ use Rattle.rules.proofs.SheetRows.{repeated-not, repeated-is, report-label}
 use Rattle.tables.specs.Canon.{rowCanon, Tables}
 use Rattle.branches.specs.Walk.{faultsAt, previousPending, Walking, Walked}
 use Rattle.branches.specs.Chain.{Chain, overs, stored, Counting, Resolving, Resolved, Declaring}
-use Rattle.branches.proofs.CanonRows.{body-end}
+use Rattle.tables.proofs.Labelling.{body-end}
 use Rattle.branches.proofs.TableRows.{canon-read, declared-read}
 use Rattle.branches.proofs.WalkFaults.{faults-suc, words-append, words-length}
 use Rattle.branches.proofs.WalkBindings.{wordAt, word-before, word-from, bindings-are, are-bindings, at-other}

@@ -1,7 +1,6 @@
 pub mod WalkFaults
 pub mod WalkBindings
 pub mod WalkPending
-pub mod CanonRows
 pub mod WalkRoom
 pub mod WalkRows
 pub mod TableRows

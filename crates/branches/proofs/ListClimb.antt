@@ -25,7 +25,7 @@ use Rattle.rules.proofs.ClassRules.{class-rule}
 use Rattle.rules.proofs.Around.{innermost-found, innermost-last, innermost-none}
 use Rattle.tables.specs.Canon.{rowCanon, Tables}
 use Rattle.branches.specs.Walk.{currentLabel, BlockLinks}
-use Rattle.branches.proofs.CanonRows.{label-class, labels-canon, canon-labels}
+use Rattle.tables.proofs.Labelling.{label-class, labels-canon, canon-labels}
 use Rattle.branches.proofs.TableRows.{canon-read, list-before}
 use Rattle.branches.proofs.BlockLabels.{BlockAround, is-current, target-none, target-found}
 

@@ -21,7 +21,7 @@ use Rattle.rules.proofs.Lists.{statement-list}
 use Rattle.rules.proofs.LabelRows.{is-declared}
 use Rattle.rules.proofs.GotoRows.{list-some, list-none, earlier-is, earlier-after, earlier-outside, earlier-none}
 use Rattle.tables.specs.Canon.{rowCanon, Tables}
-use Rattle.branches.proofs.CanonRows.{row-canon-within, declared-canon, declared-blank, labels-canon}
+use Rattle.tables.proofs.Labelling.{row-canon-within, declared-canon, declared-blank, labels-canon}
 
 module _ {w p b cs ds ls : List ℕ} (t : Tables w p b cs ds ls) where
   pub canon-place : (r : ℕ) → r < rowCount w → name w r < length cs
@@ -31,13 +31,13 @@ module _ {w p b cs ds ls : List ℕ} (t : Tables w p b cs ds ls) where
   canon-read r c h e = e ∙ t .by-name .at-name (name w r) (name-within (t .body) r h)
 
   pub declared-place : (r c : ℕ) → r < rowCount w → c ≡ getD cs (name w r) 0 → c < length ds
-  declared-place r c h e = omega (arith, t .by-canon .room, row-canon-within (t .body) r h, canon-read r c h e)
+  declared-place r c h e = omega (arith, t .by-canon .room, row-canon-within w p b r, canon-read r c h e)
 
   pub declared-read : (r c d : ℕ) → r < rowCount w → c ≡ getD cs (name w r) 0 → (c ≡ 0 → ⊥) → d ≡ getD ds c 0 → d ≡ word (declared w p b 0 r)
   declared-read r c d h e z f =
       let i = canon-read r c h e in
       let y : 0 < rowCanon w p b r = omega arith in
-      f ∙ ap (λ (n : ℕ). getD ds n 0) i ∙ t .by-canon .at-canon (rowCanon w p b r) y (row-canon-within (t .body) r h)
+      f ∙ ap (λ (n : ℕ). getD ds n 0) i ∙ t .by-canon .at-canon (rowCanon w p b r) y (row-canon-within w p b r)
       ∙ ap word (declared-canon (t .body) r h y)
 
   -- the list of a statement

@@ -1,38 +1,23 @@
 -- The pending gotos of the walk, one row further: a goto before the row stays pending unless the row is a later label of its; the row itself is pending
 -- where it is a goto without an earlier label.
 -- Assumes nothing.
-use mathlib.Core.Path.{_≡_, refl}
+use mathlib.Core.Path.{_≡_}
 use mathlib.Core.Bool.{Bool, true, false, _&&_}
 use mathlib.Core.List.{List}
 use mathlib.Core.Option.{none, some}
-use Prim.Native.Nat.{ℕ, zero, suc, _<_}
+use Prim.Native.Nat.{ℕ, suc, _<_}
 use native.Mathlib.Omega.{arith}
 use lib.Dec.{eqb}
 use borrow.Author.Tests.{eq-eqb, ne-eqb}
 use Rattle.rules.specs.Scan.{highest}
 use Rattle.rules.specs.Class.{goto, class}
 use Rattle.rules.specs.Labels.{isLabel, earlier, pending}
-use Rattle.rules.proofs.Test.{case-of, clash}
+use Rattle.rules.proofs.Test.{clash}
+use Rattle.rules.proofs.Scan.{highest-same, highest-yes, highest-no}
 use Rattle.rules.proofs.GotoRows.{isLater, later-none, pending-is, not-pending}
 use Rattle.tables.specs.Canon.{rowCanon}
 use Rattle.branches.specs.Walk.{previousPending}
 use Rattle.branches.proofs.WalkBindings.{later-same, later-own, not-later}
-
--- two tests that agree below n find the same
-pub highest-same : (P Q : ℕ → Bool) (n : ℕ) → ((k : ℕ) → k < n → P k ≡ Q k) → highest P n ≡ highest Q n
-unfolding highest
-highest-same P Q zero h = refl
-highest-same P Q (suc n) h =
-    let r = highest-same P Q n (λ k l. h k (omega arith)) in
-    case-of (Q n) (λ t. rw (h n (omega arith), t, highest)) (λ t. rw (h n (omega arith), t, r, highest))
-
-pub highest-yes : (P : ℕ → Bool) (n : ℕ) → P n ≡ true → highest P (suc n) ≡ some n
-unfolding highest
-highest-yes P n t = rw (t, highest)
-
-pub highest-no : (P : ℕ → Bool) (n : ℕ) → P n ≡ false → highest P (suc n) ≡ highest P n
-unfolding highest
-highest-no P n t = rw (t, highest)
 
 module _ (w p b : List ℕ) where
   -- ---- one goto

@@ -1,5 +1,5 @@
-pub mod Elements
-pub mod Halves
-pub mod KeyOrder
-pub mod Merging
-pub mod Ranking
+pub mod Firsts
+pub mod Hashing
+pub mod Chain
+pub mod Numbering
+pub mod Zeros

@@ -1,3 +1,3 @@
-pub mod Keys
-pub mod Ranked
-pub mod Sorting
+pub mod First
+pub mod Hash
+pub mod Linked

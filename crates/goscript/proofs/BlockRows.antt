@@ -24,7 +24,7 @@ use Rattle.rules.proofs.LabelRows.{is-declared, is-labels}
 use Rattle.rules.proofs.GotoRows.{list-some, in-list}
 use Rattle.rules.proofs.Around.{innermost-last}
 use Rattle.rules.proofs.Lists.{statement-list}
-use Rattle.branches.proofs.CanonRows.{label-class, body-end}
+use Rattle.tables.proofs.Labelling.{label-class, body-end}
 use Rattle.goscript.specs.Syntax.{ident, lookup}
 use Rattle.goscript.specs.Block.{Block, new, insert, search, goto-target, enclosing-target}
 use Rattle.goscript.proofs.SameNames.{same-ident, declared-same, declared-own}

@@ -22,7 +22,7 @@ use Rattle.rules.proofs.RowNames.{same-own}
 use Rattle.rules.proofs.LabelRows.{labels-is, some-declared}
 use Rattle.rules.proofs.SheetRows.{repeated-not, repeated-is, report-label}
 use Rattle.branches.specs.Walk.{faultsAt}
-use Rattle.branches.proofs.CanonRows.{body-end}
+use Rattle.tables.proofs.Labelling.{body-end}
 use Rattle.branches.proofs.WalkFaults.{faults-suc}
 use Rattle.goscript.specs.Syntax.{through, contains, ident, lookup}
 use Rattle.goscript.specs.Context.{Context}

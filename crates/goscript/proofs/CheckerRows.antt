@@ -26,7 +26,7 @@ use Rattle.rules.proofs.BreakRows.{is-valid, labelled-is, not-labelled, other-l
 use Rattle.rules.proofs.BindingRows.{branch-label, binding-break, binding-invalid, binding-other}
 use Rattle.rules.proofs.SheetRows.{report-valid, report-break, report-continue, report-fallthrough, report-other}
 use Rattle.branches.specs.Walk.{bindingAt}
-use Rattle.branches.proofs.CanonRows.{body-end}
+use Rattle.tables.proofs.Labelling.{body-end}
 use Rattle.branches.proofs.WalkFaults.{faults-suc}
 use Rattle.branches.proofs.WalkBindings.{at-goto, at-later, at-other, not-later, later-own, binding-same}
 use Rattle.goscript.specs.Syntax.{ident, lookup}

@@ -21,7 +21,7 @@ use Rattle.rules.proofs.LabelRows.{is-labels}
 use Rattle.rules.proofs.GotoRows.{in-list, isLater, later-parts, later-none, none-later, is-pending}
 use Rattle.branches.specs.Walk.{latestIn}
 use Rattle.branches.proofs.WalkPending.{pending-other}
-use Rattle.branches.proofs.CanonRows.{label-class}
+use Rattle.tables.proofs.Labelling.{label-class}
 use Rattle.branches.proofs.Downward.{highest-cut}
 use Rattle.goscript.specs.Context.{Context, with-jumps}
 use Rattle.goscript.proofs.Passing.{passing-split}

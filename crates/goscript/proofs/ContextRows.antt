@@ -20,15 +20,15 @@ use Rattle.rules.proofs.Test.{case-of, clash, and-true}
 use Rattle.rules.proofs.ClassTests.{one-is}
 use Rattle.rules.proofs.Every.{is-one}
 use Rattle.rules.proofs.Found.{is-found, found-is}
-use Rattle.rules.proofs.Scan.{none-highest}
+use Rattle.rules.proofs.Scan.{none-highest, highest-yes, highest-no}
 use Rattle.rules.proofs.Around.{innermost-found}
 use Rattle.rules.proofs.LabelRows.{other-label, is-labels, labels-is}
 use Rattle.rules.proofs.RowNames.{same-sym}
 use Rattle.rules.proofs.GotoRows.{list-some, isLater, later-parts, parts-later, later-none, none-later, pending-is, is-pending}
 use Rattle.branches.specs.Walk.{latestIn}
-use Rattle.branches.proofs.WalkPending.{highest-yes, highest-no, pending-same, pending-found, pending-other, pending-own}
+use Rattle.branches.proofs.WalkPending.{pending-same, pending-found, pending-other, pending-own}
 use Rattle.branches.proofs.WalkBindings.{not-later}
-use Rattle.branches.proofs.CanonRows.{label-class}
+use Rattle.tables.proofs.Labelling.{label-class}
 use Rattle.goscript.specs.Syntax.{filter, contains, ident}
 use Rattle.goscript.specs.Context.{Context, new, record-var-decl, with-jumps, with-lstmt}
 use Rattle.goscript.proofs.SameNames.{same-ident}

@@ -35,9 +35,10 @@ use Rattle.rules.proofs.ClassTests.{break-branch, branch-goto}
 use Rattle.rules.proofs.Found.{is-found}
 use Rattle.rules.proofs.BreakRows.{not-labelled}
 use Rattle.rules.proofs.BindingRows.{binding-declared, binding-repeated, binding-other}
+use Rattle.rules.proofs.RankRows.{label-at}
 use Rattle.rules.proofs.SheetRows.{unused-none, unused-not, unused-is}
 use Rattle.branches.specs.Walk.{faultsAt}
-use Rattle.branches.proofs.CanonRows.{body-end, label-class}
+use Rattle.tables.proofs.Labelling.{body-end, label-class}
 use Rattle.goscript.specs.Build.{Build}
 use Rattle.goscript.specs.Syntax.{through, contains, list}
 use Rattle.goscript.specs.Checker.{Checker, new as newChecker, error, bound}
@@ -45,7 +46,7 @@ use Rattle.goscript.specs.Label.{Outgoing, block-branches, leftJump, unu
 use Rattle.goscript.specs.Equal.{SameLabels}
 use Rattle.goscript.proofs.Loops.{each-same, through-none, through-one, through-each}
 use Rattle.goscript.proofs.Walking.{allAt, jumpsAt, CheckerAt}
-use Rattle.goscript.proofs.ScopeRows.{ofNumber, number-none, number-before, label-at}
+use Rattle.goscript.proofs.ScopeRows.{ofNumber, number-none, number-before}
 use Rattle.goscript.proofs.UseRows.{use-branch, use-none}
 use Rattle.goscript.proofs.CheckerRows.{error-none}
 use Rattle.goscript.proofs.LeftJumps.{error-each, Left, binding-end, left-all, left-used}

@@ -1,5 +1,5 @@
--- The scope of all labels when the walk stands at row x: the declared labels before x, one for each canonical number, so in the order of their names. A row
--- that is no declared label adds none; a declared label comes between the smaller and the larger numbers, which is where `place` puts it. A label of the scope
+-- The scope of all labels when the walk stands at row x: the declared labels before x, one for each rank, so in the order of their names. A row
+-- that is no declared label adds none; a declared label comes between the smaller and the larger ranks, which is where `place` puts it. A label of the scope
 -- with the name of a row is the declared one of that name, since it is the first of its own name.
 -- Assumes nothing.
 use mathlib.Core.Path.{_≡_, refl, sym, _∙_, ap}
@@ -17,11 +17,11 @@ use Rattle.rules.specs.Body.{Body}
 use Rattle.rules.specs.Labels.{each, only, isLabel, declared, declaredAt}
 use Rattle.rules.proofs.Test.{case-of, case-found, clash}
 use Rattle.rules.proofs.Each.{each-zero, each-suc, none-each}
-use Rattle.rules.proofs.Order.{before-not-after, rank-before}
+use Rattle.rules.proofs.Order.{before-not-after, rank-above, rank-within, rank-before}
 use Rattle.rules.proofs.LabelRows.{is-labels, is-declared}
-use Rattle.rules.proofs.SheetRows.{is-ranked, is-declared-at}
-use Rattle.tables.specs.Canon.{rowCanon}
-use Rattle.branches.proofs.CanonRows.{numbered, body-end, row-canon-within, label-numbered, declared-canon}
+use Rattle.rules.proofs.RowNames.{name-within}
+use Rattle.rules.proofs.RankRows.{label-named, declared-rank, label-at}
+use Rattle.tables.proofs.Labelling.{body-end}
 use Rattle.goscript.specs.Syntax.{ident, lookup}
 use Rattle.goscript.specs.Checker.{Checker, place}
 use Rattle.goscript.proofs.SameNames.{same-ident, declared-same, declared-own}
@@ -142,30 +142,20 @@ module _ (w p b : List ℕ) where
       (λ e. number-none (suc x) i e ∙ sym (number-none x i e))
 
 module _ {w p b : List ℕ} (body : Body w p b) where
-  -- ---- the canonical number of a declared label
-  pub label-at : (c d : ℕ) → declaredAt w p b 0 c ≡ some d
-      → (d < rowCount w) × (isLabel w p b 0 d ≡ true) × (declared w p b 0 d ≡ some d) × (rank p b (name w d) ≡ c)
-  label-at c d e =
-      let n = body-end body in
-      let i = is-declared-at w p b 0 c d e in
-      let x = is-ranked w p b 0 c d (i .1) in
-      let row : d < rowCount w = omega (arith, i .0) in
-      let z = label-numbered body d row (x .0) in
-      let number : rowCanon w p b d ≡ c = numbered p b (name w d) z .is-rank ∙ x .1 in
-      (row, x .0, sym (declared-canon body d row z) ∙ ap (declaredAt w p b 0) number ∙ e, x .1)
-
+  -- ---- the rank of a declared label
   has-number : (d : ℕ) → d < rowCount w → isLabel w p b 0 d ≡ true → declared w p b 0 d ≡ some d
       → (k : ℕ) × (k < pairCount p) × (declaredAt w p b 0 (suc k) ≡ some d)
   has-number d row t e =
-      let z = label-numbered body d row t in
-      let i : suc (rowCanon w p b d - 1) ≡ rowCanon w p b d = omega arith in
-      (rowCanon w p b d - 1, omega (arith, row-canon-within body d row), rw i (declared-canon body d row z ∙ e))
+      let z = label-named body d row t in
+      let a = rank-above p b (name w d) in
+      let i : suc (rank p b (name w d) - 1) ≡ rank p b (name w d) = omega arith in
+      (rank p b (name w d) - 1, omega (arith, rank-within p b (name w d) z (name-within body d row)), rw i (declared-rank body d row z ∙ e))
 
   -- their names stand in the order of their numbers
   in-order : (i k d e : ℕ) → declaredAt w p b 0 (suc i) ≡ some d → declaredAt w p b 0 (suc k) ≡ some e → i < k
       → bytesBefore (ident w p b d) (ident w p b e) ≡ true
   unfolding ident
-  in-order i k d e y z h = rank-before p b (name w d) (name w e) (omega (arith, label-at (suc i) d y .3, label-at (suc k) e z .3))
+  in-order i k d e y z h = rank-before p b (name w d) (name w e) (omega (arith, label-at body (suc i) d y .3, label-at body (suc k) e z .3))
 
   -- ---- the scope
   pub all-zero : allAt w p b 0 ≡ []
@@ -175,7 +165,7 @@ module _ {w p b : List ℕ} (body : Body w p b) where
   pub all-same : (x : ℕ) → (isLabel w p b 0 x ≡ true → declared w p b 0 x ≡ some x → ⊥) → allAt w p b (suc x) ≡ allAt w p b x
   unfolding allAt
   all-same x n = each-same (ofNumber w p b (suc x)) (ofNumber w p b x) (pairCount p)
-      (λ i h. number-same w p b x i (λ e. let (row, t, own, r) = label-at (suc i) x e in n t own))
+      (λ i h. number-same w p b x i (λ e. let (row, t, own, r) = label-at body (suc i) x e in n t own))
 
   pub all-placed : (x : ℕ) → x < rowCount w → isLabel w p b 0 x ≡ true → declared w p b 0 x ≡ some x → place w p b x (allAt w p b x) ≡ allAt w p b (suc x)
   unfolding allAt
@@ -189,7 +179,7 @@ module _ {w p b : List ℕ} (body : Body w p b) where
       (λ e. rw (e, append-nil xs, append-nil (place w p b x xs)))
       (λ d e l q. rw q (place-ahead w p b x d xs (in-order k i x d at e h))))
       (number-from w p b x k x at (omega arith)) (number-before w p b (suc x) k x at (omega arith))
-      (λ i n. sym (number-same w p b x i (λ e. n (omega (arith, label-at (suc i) x e .3, label-at (suc k) x at .3)))))
+      (λ i n. sym (number-same w p b x i (λ e. n (omega (arith, label-at body (suc i) x e .3, label-at body (suc k) x at .3)))))
       (pairCount p) within
 
   -- what a number's label answers for the name of g
@@ -199,7 +189,7 @@ module _ {w p b : List ℕ} (body : Body w p b) where
       (λ e. let z : none ≡ some d = rw e at q in absurd (clash (cc)))
       (λ k e l f.
       let (j, t) = one-lookup w p b (ident w p b g) k d (rw f at q) in
-      let own : declared w p b 0 g ≡ some k = sym (declared-same w p b k g (sym (same-ident w p b k g) ∙ t)) ∙ label-at (suc i) k e .2 in
+      let own : declared w p b 0 g ≡ some k = sym (declared-same w p b k g (sym (same-ident w p b k g) ∙ t)) ∙ label-at body (suc i) k e .2 in
       (own ∙ ap some j, omega arith))
 
   found-number : (x g d : ℕ) → declared w p b 0 g ≡ some d → d < x → (i : ℕ) × (i < pairCount p) × (lookup w p b (ident w p b g) (ofNumber w p b x i) ≡ some d)

@@ -17,6 +17,7 @@ use Rattle.rules.specs.Scope.{listOf, inListOf}
 use Rattle.rules.specs.Body.{Body}
 use Rattle.rules.specs.Labels.{Fault, only, is, isClass, word, isLabel, labels, latestDeclaration, pending, jumpsOver}
 use Rattle.rules.proofs.Test.{case-of, case-found, clash, and-true}
+use Rattle.rules.proofs.Scan.{highest-same}
 use Rattle.rules.proofs.Each.{none-only}
 use Rattle.rules.proofs.ClassTests.{branch-goto, one-is}
 use Rattle.rules.proofs.Every.{is-one}
@@ -25,8 +26,7 @@ use Rattle.rules.proofs.LabelRows.{labels-is, is-labels}
 use Rattle.rules.proofs.GotoRows.{in-list, isLater, later-parts, parts-later, is-pending, resolved}
 use Rattle.rules.proofs.SheetRows.{isOver, is-over, jumps-none, jumps-some}
 use Rattle.branches.specs.Walk.{bindingAt, latestIn}
-use Rattle.branches.proofs.CanonRows.{label-class}
-use Rattle.branches.proofs.WalkPending.{highest-same}
+use Rattle.tables.proofs.Labelling.{label-class}
 use Rattle.branches.proofs.WalkBindings.{at-goto, at-later, at-other, later-found, later-kept, binding-same}
 use Rattle.goscript.specs.Context.{Context}
 use Rattle.goscript.specs.Label.{varDecl}

@@ -22,7 +22,7 @@ use Rattle.rules.proofs.Every.{every}
 use Rattle.rules.proofs.ClassRules.{class-rule, child-rule}
 use Rattle.rules.proofs.Nesting.{item-before, item-from, item-next, ends-before}
 use Rattle.rules.proofs.LabelRows.{label-is, blank-label}
-use Rattle.branches.proofs.CanonRows.{body-end}
+use Rattle.tables.proofs.Labelling.{body-end}
 use Rattle.goscript.specs.Build.{Place, original, mended, Build}
 use Rattle.goscript.specs.Syntax.{list}
 use Rattle.goscript.specs.Block.{enclosing-target}

@@ -5,7 +5,7 @@ use mathlib.Core.Path.{_≡_, refl, sym, _∙_, ap}
 use mathlib.Core.Bool.{true, false}
 use mathlib.Core.List.{List, [], _∷_, _++_}
 use mathlib.Core.Option.{Option, none, some}
-use Prim.Native.Nat.{ℕ, zero, suc, _+_, _*_, _≤_, _<_}
+use Prim.Native.Nat.{ℕ, suc, _+_, _*_, _≤_, _<_}
 use native.Mathlib.Omega.{arith}
 use native.Mathlib.Decide.{ℕ-discrete}
 use lib.ListN.{length, getD, take, drop, set, replicate, length-replicate, length-append, length-set, take-append-drop}
@@ -22,10 +22,11 @@ use Rattle.rules.proofs.Test.{case-of, clash}
 use Rattle.rules.proofs.Scan.{none-highest}
 use Rattle.rules.proofs.ClassTests.{one-is}
 use Rattle.rules.proofs.Every.{is-one}
+use Rattle.canonical.proofs.Zeros.{zeros-at}
 use Rattle.lists.specs.Listed.{Listed}
 use Rattle.tables.specs.Canon.{CanonTable, DeclaredTable, Tables}
 use Rattle.branches.specs.Walk.{Walking, Walked, faultsAt, bindingAt, previousPending}
-use Rattle.branches.proofs.CanonRows.{body-end}
+use Rattle.tables.proofs.Labelling.{body-end}
 use Rattle.branches.proofs.WalkFaults.{faults-zero, words-length}
 use Rattle.branches.proofs.WalkBindings.{each-length, each-at, bindings-zero, are-bindings, word-before, at-other}
 use Rattle.branches.proofs.WalkPending.{waits}
@@ -39,11 +40,6 @@ use Rattle.label.proofs.UnusedRows.{ninesTo, nines-sheet}
 use Rattle.label.proofs.NamelessRows.{nameless-sheet, nameless-binding}
 
 -- ---- words that are 0
-pub zeros-at : (n c : ℕ) → getD {A = ℕ} (replicate n 0) c 0 ≡ 0
-zeros-at zero c = refl
-zeros-at (suc n) zero = refl
-zeros-at (suc n) (suc c) = zeros-at n c
-
 pub cleared-more : (r n : ℕ) (t t′ : List ℕ) → r < n → n ≤ length t → length t′ ≡ length t → ((g : ℕ) → g < r → getD t′ g 0 ≡ 0) → drop n t′ ≡ drop n t
     → (r + 1 ≤ n) × (length (set t′ r 0) ≡ length t) × ((g : ℕ) → g < r + 1 → getD (set t′ r 0) g 0 ≡ 0) × (drop n (set t′ r 0) ≡ drop n t)
 cleared-more r n t t′ h m same zeros kept = (
@@ -152,6 +148,11 @@ module _ {w p b : List ℕ} (body : Body w p b) where
     bound = bindings-by-row t′ (omega (arith, c .cleared-length)) (λ g h. c .zeros g h ∙ sym (nameless-binding body free g h));
     bindings-kept = c .kept;
   }
+
+-- the tables of the pending gotos, which the walk leaves as long as they were
+pub tables-room : {w p cs ds ls s t h l d m u : List ℕ} → Lent w p cs ds ls s t h l d m u → (i j : ℕ) → i ≡ length h → j ≡ length l
+    → (pairCount p < i) × (rowCount w ≤ j)
+tables-room lent i j e f = (omega (arith, lent .heads-room), omega (arith, lent .links-room))
 
 pub unused-start : {w p b : List ℕ} (n m : ℕ) (s t s′ : List ℕ) → AtEnd w p b n s t → Reported m (faultsLeft w p b) s s′
     → Reported m (faultsLeft w p b) s′ s′ × (rowCount w * 8 ≤ length s′)

@@ -21,7 +21,7 @@ use Rattle.rules.proofs.Test.{case-of}
 use Rattle.rules.proofs.Found.{found-is}
 use Rattle.rules.proofs.Scan.{none-highest}
 use Rattle.branches.specs.Walk.{latestIn}
-use Rattle.branches.proofs.WalkPending.{highest-same, highest-yes, highest-no}
+use Rattle.rules.proofs.Scan.{highest-same, highest-yes, highest-no}
 use Rattle.label.specs.Contexts.{latestLabel, ListTable, Contexts}
 
 -- ---- the latest row of a list that passes the test Q

@@ -26,7 +26,7 @@ use Rattle.rules.proofs.Nesting.{item-before, ends-before}
 use Rattle.rules.proofs.Around.{innermost-found, innermost-last}
 use Rattle.rules.proofs.Lists.{found-innermost}
 use Rattle.branches.specs.Walk.{currentLabel}
-use Rattle.branches.proofs.CanonRows.{label-class}
+use Rattle.tables.proofs.Labelling.{label-class}
 use Rattle.branches.proofs.BlockLabels.{is-current, current-is}
 use Rattle.label.specs.Contexts.{latestLabel}
 use Rattle.label.proofs.ListRows.{list-before}

@@ -18,7 +18,7 @@ use Rattle.rules.specs.Rows.{rowCount, kind, detail, position, name, end}
 use Rattle.rules.specs.Class.{goto, oneOf, isBranch, detailAllowed, classOf, base, class}
 use Rattle.rules.specs.Names.{pairCount, badNameWords, namesOk}
 use Rattle.rules.specs.Body.{Body}
-use Rattle.rules.specs.Labels.{Fault, each, isSome, fault, word, isClass, labels, declared, earlier, later, pending, binding, unresolved, used, declaredAt}
+use Rattle.rules.specs.Labels.{Fault, each, isSome, fault, word, isClass, labels, declared, earlier, later, pending, binding, unresolved, used}
 use Rattle.rules.specs.Calls.{faultWords}
 use Rattle.rules.proofs.Test.{case-of, case-found, clash}
 use Rattle.rules.proofs.Scan.{howMany-yes, howMany-no}
@@ -43,16 +43,14 @@ use Rattle.rules.proofs.SheetRows.{
   uses-binding,
   uses-pending,
   uses-cases,
-  is-declared-at,
-  is-ranked,
 }
-use Rattle.tables.specs.Canon.{rowCanon, CanonTable, DeclaredTable}
+use Rattle.tables.specs.Canon.{rowCanon, declaredFor, CanonTable, DeclaredTable}
 use Rattle.branches.specs.Walk.{faultsAt, bindingAt}
 use Rattle.branches.proofs.WalkFaults.{snoc-length, put-length, put-reported, put-kept}
 use Rattle.branches.proofs.WalkBindings.{at-goto, at-later, at-other}
 use Rattle.branches.proofs.WalkPending.{pending-other}
 use Rattle.branches.proofs.WalkRoom.{isDeclared, room}
-use Rattle.branches.proofs.CanonRows.{numbered, body-end, row-canon-within, label-numbered, labels-canon, declared-canon, declared-blank}
+use Rattle.tables.proofs.Labelling.{body-end, row-canon-within, labels-canon, declared-canon, is-declared-for, declared-blank}
 use Rattle.label.specs.Left.{leftAt, usedBefore, UsedBefore, Left, LeftOver}
 
 -- ---- whether some number below n passes
@@ -135,21 +133,20 @@ module _ {w p b : List ℕ} (body : Body w p b) where
         | inr y ↦ let x = is-declared w p b 0 g d (y .1) in (omega (arith, x .0), x .1)
       ]
 
-  uses-number : (c d g : ℕ) → g < rowCount w → declaredAt w p b 0 c ≡ some d → uses w p b 0 d g ≡ true → c ≡ rowCanon w p b g
+  uses-number : (c d g : ℕ) → g < rowCount w → declaredFor w p b c ≡ some d → uses w p b 0 d g ≡ true → c ≡ rowCanon w p b g
   uses-number c d g h e t =
       let (l, n) = uses-labels d g t in
-      let x = is-ranked w p b 0 c d (is-declared-at w p b 0 c d e .1) in
-      sym (x .1) ∙ sym (numbered p b (name w d) (label-numbered body d l (x .0)) .is-rank) ∙ labels-canon body g d h l n .1
+      sym (is-declared-for body c d e .3) ∙ labels-canon body g d h l n .1
 
   -- ---- the table, one row further
-  pub table-same : (g : ℕ) (u : List ℕ) → UsedBefore w p b g u → ((c d : ℕ) → declaredAt w p b 0 c ≡ some d → uses w p b 0 d g ≡ false) → UsedBefore w p b (suc g) u
+  pub table-same : (g : ℕ) (u : List ℕ) → UsedBefore w p b g u → ((c d : ℕ) → declaredFor w p b c ≡ some d → uses w p b 0 d g ≡ false) → UsedBefore w p b (suc g) u
   table-same g u t n c d z h e = t c d z h e ∙ ap not (sym (before-no w p b d g (n c d e)))
 
   pub table-set : (g c e : ℕ) (u : List ℕ) → UsedBefore w p b g u → g < rowCount w → c ≡ rowCanon w p b g → c < length u
-      → declaredAt w p b 0 c ≡ some e → uses w p b 0 e g ≡ true → UsedBefore w p b (suc g) (set u c 1)
+      → declaredFor w p b c ≡ some e → uses w p b 0 e g ≡ true → UsedBefore w p b (suc g) (set u c 1)
   table-set g c e u t row ec room at yes-uses c′ d z h f = elim (ℕ-discrete c′ c) [
     | yes y ↦
-        let i : some e ≡ some d = sym at ∙ ap (declaredAt w p b 0) (sym y) ∙ f in
+        let i : some e ≡ some d = sym at ∙ ap (declaredFor w p b) (sym y) ∙ f in
         let j : e ≡ d = cc in
         rw (y, getD-set-same u c 1 0 room, before-yes w p b d g (rw j at yes-uses)) (ne-eqb 1 0 (λ k. omega arith))
     | no o ↦
@@ -319,19 +316,19 @@ module _ {w p b cs ds s u : List ℕ} {g faults c v : ℕ} (at : AtBranch w p b 
   number = at .number-is ∙ at .by-name .at-name (name w g) (name-within (at .body) g (at .row))
 
   pub declared-fits : c < length ds
-  declared-fits = omega (arith, at .by-canon .room, row-canon-within (at .body) g (at .row), number)
+  declared-fits = omega (arith, at .by-canon .room, row-canon-within w p b g, number)
 
   pub used-fits : c < length u
-  used-fits = omega (arith, at .left .used-room, row-canon-within (at .body) g (at .row), number)
+  used-fits = omega (arith, at .left .used-room, row-canon-within w p b g, number)
 
   pub canon-small : c ≤ 500
-  canon-small = omega (arith, pair-most (at .body), row-canon-within (at .body) g (at .row), number)
+  canon-small = omega (arith, pair-most (at .body), row-canon-within w p b g, number)
 
   its-word : binding w p b 0 g ≡ v
   its-word = sym (branch-word (at .body) g branch) ∙ sym (at .word-is)
 
-  declared-read : 0 < c → getD ds c 0 ≡ word (declaredAt w p b 0 c)
-  declared-read z = at .by-canon .at-canon c z (omega (arith, row-canon-within (at .body) g (at .row), number))
+  declared-read : 0 < c → getD ds c 0 ≡ word (declaredFor w p b c)
+  declared-read z = at .by-canon .at-canon c z (omega (arith, row-canon-within w p b g, number))
 
   -- it is bound
   module _ (z : v ≡ 0 → ⊥) where
@@ -349,7 +346,7 @@ module _ {w p b cs ds s u : List ℕ} {g faults c v : ℕ} (at : AtBranch w p b 
     pub over-bound : v ≡ getD ds c 0 → LeftOver w p b (suc g) faults s s (set u c 1)
     over-bound e =
         let i : suc (v - 1) ≡ v = omega arith in
-        let named = word-found (declaredAt w p b 0 c) (v - 1) (sym (declared-read numbered-branch) ∙ sym e ∙ sym i) in
+        let named = word-found (declaredFor w p b c) (v - 1) (sym (declared-read numbered-branch) ∙ sym e ∙ sym i) in
         over-same (at .body) g faults s u (at .row) (at .left) (set u c 1) resolved-branch (length-set u c 1)
         (table-set (at .body) g c (v - 1) u (at .left .used-at) (at .row) number used-fits named (uses-binding w p b 0 (v - 1) g branch (its-word ∙ sym i)))
 
@@ -357,11 +354,11 @@ module _ {w p b cs ds s u : List ℕ} {g faults c v : ℕ} (at : AtBranch w p b 
     pub over-repeated : (v ≡ getD ds c 0 → ⊥) → LeftOver w p b (suc g) faults s s u
     over-repeated n = over-same (at .body) g faults s u (at .row) (at .left) u resolved-branch refl (table-same (at .body) g u (at .left .used-at) not-used)
       where
-        not-used : (c′ d : ℕ) → declaredAt w p b 0 c′ ≡ some d → uses w p b 0 d g ≡ false
+        not-used : (c′ d : ℕ) → declaredFor w p b c′ ≡ some d → uses w p b 0 d g ≡ false
         not-used c′ d e = case-of (uses w p b 0 d g)
             (λ t. elim (uses-cases w p b 0 d g t .1) [
               | inl y ↦
-                  let j : declaredAt w p b 0 c ≡ some d = ap (declaredAt w p b 0) (number ∙ sym (uses-number (at .body) c′ d g (at .row) e t)) ∙ e in
+                  let j : declaredFor w p b c ≡ some d = ap (declaredFor w p b) (number ∙ sym (uses-number (at .body) c′ d g (at .row) e t)) ∙ e in
                   absurd (n (sym its-word ∙ y ∙ sym (declared-read numbered-branch ∙ ap word j)))
               | inr y ↦ absurd (z (sym its-word ∙ waits-unbound w p b g (y .0) branch))
             ])
@@ -397,9 +394,9 @@ module _ {w p b cs ds s u : List ℕ} {g faults c v : ℕ} (at : AtBranch w p b 
       over-declared x y s′ i =
           let e : suc (getD ds c 0 - 1) ≡ getD ds c 0 = omega arith in
           let m : 0 < c = omega arith in
-          let named = word-found (declaredAt w p b 0 c) (getD ds c 0 - 1) (sym (declared-read m) ∙ sym e) in
+          let named = word-found (declaredFor w p b c) (getD ds c 0 - 1) (sym (declared-read m) ∙ sym e) in
           let mine : declared w p b 0 g ≡ some (getD ds c 0 - 1) =
-          sym (declared-canon (at .body) g (at .row) (omega (arith, number))) ∙ ap (declaredAt w p b 0) (sym number) ∙ named in
+          sym (declared-canon (at .body) g (at .row) (omega (arith, number))) ∙ ap (declaredFor w p b) (sym number) ∙ named in
           over-fault (at .body) g faults s u (at .row) (at .left) (fault w 7 g) s′ (set u c 1) waits
           (unresolved-declared w p b 0 g (getD ds c 0 - 1) waits mine) i (length-set u c 1)
           (table-set (at .body) g c (getD ds c 0 - 1) u (at .left .used-at) (at .row) number used-fits named
@@ -424,7 +421,7 @@ module _ {w p b cs ds s u : List ℕ} {g faults c v : ℕ} (at : AtBranch w p b 
       pub over-undeclared : (c ≡ 0 → ⊥) → getD ds c 0 ≡ 0 → (s′ : List ℕ)
           → s′ ≡ sets s (faults * 4) (8 ∷ position w g ∷ name w g ∷ 0 ∷ []) → LeftOver w p b (suc g) (faults + 1) s s′ u
       over-undeclared x y = over-none
-          (sym (declared-canon (at .body) g (at .row) (omega (arith, number))) ∙ ap (declaredAt w p b 0) (sym number)
-          ∙ case-found (declaredAt w p b 0 c)
+          (sym (declared-canon (at .body) g (at .row) (omega (arith, number))) ∙ ap (declaredFor w p b) (sym number)
+          ∙ case-found (declaredFor w p b c)
           (λ e named. let f = declared-read (omega arith) ∙ ap word named in absurd (omega arith))
           (λ named. named))

@@ -2,12 +2,12 @@
 -- Assumes nothing.
 use mathlib.Core.Path.{_≡_, refl, sym, _∙_, ap}
 use mathlib.Core.Bool.{not}
-use mathlib.Core.List.{List, [], _∷_}
-use Prim.Native.Nat.{ℕ, zero, suc, _+_, _*_, _-_, _≤_, _<_}
-use native.Mathlib.Numerals.{add-one, unary-clauses}
+use mathlib.Core.List.{List}
+use Prim.Native.Nat.{ℕ, suc, _+_, _*_, _-_, _≤_, _<_}
+use native.Mathlib.Numerals.{add-one}
 use native.Mathlib.Omega.{arith}
 use lib.ListN.{length, getD, drop, length-append}
-use lib.Seq.{drop-nil}
+use lib.Seq.{drop-drop}
 use borrow.Author.Tests.{eq-eqb}
 use Rattle.rules.specs.Rows.{rowCount}
 use Rattle.rules.specs.Names.{pairCount}
@@ -16,21 +16,16 @@ use Rattle.rules.specs.Labels.{Fault, unresolved}
 use Rattle.rules.specs.Calls.{faultWords}
 use Rattle.branches.specs.Walk.{bindingAt}
 use Rattle.branches.proofs.WalkBindings.{are-bindings, word-before}
-use Rattle.branches.proofs.CanonRows.{body-end}
+use Rattle.tables.proofs.Labelling.{body-end}
 use Rattle.label.specs.Rest.{Reported, faultsLeft, AtEnd, UsedTable}
 use Rattle.label.specs.Left.{leftAt, usedBefore, LeftOver}
 use Rattle.label.proofs.LeftRows.{left-zero, left-suc, before-zero, before-end}
 
 -- ---- what is past more words
-drop-drop : (m n : ℕ) (l : List ℕ) → drop n (drop m l) ≡ drop (n + m) l
-drop-drop zero n l = simp unary-clauses
-drop-drop (suc m) n [] = drop-nil n ∙ sym (drop-nil (n + suc m))
-drop-drop (suc m) n (x ∷ xs) = simp unary-clauses (drop-drop m n xs)
-
 pub drop-further : (m n : ℕ) (s t : List ℕ) → m ≤ n → drop m s ≡ drop m t → drop n s ≡ drop n t
 drop-further m n s t h e =
-    let i : n - m + m ≡ n = omega arith in
-    ap (λ (k : ℕ). drop k s) (sym i) ∙ sym (drop-drop m (n - m) s) ∙ ap (drop (n - m)) e ∙ drop-drop m (n - m) t ∙ ap (λ (k : ℕ). drop k t) i
+    let i : m + (n - m) ≡ n = omega arith in
+    ap (λ (k : ℕ). drop k s) (sym i) ∙ sym (drop-drop (n - m) m s) ∙ ap (drop (n - m)) e ∙ drop-drop (n - m) m t ∙ ap (λ (k : ℕ). drop k t) i
 
 more-faults : (w p b : List ℕ) (r : ℕ) → length (leftAt w p b r) ≤ length (leftAt w p b (suc r))
 more-faults w p b r = let e = ap length (left-suc w p b r) ∙ length-append (leftAt w p b r) (unresolved w p b 0 r) in omega arith

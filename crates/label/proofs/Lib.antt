@@ -8,6 +8,9 @@ pub mod PlainRows
 pub mod RowSteps
 pub mod LeftRows
 pub mod LeftTurns
+pub mod UnusedNames
+pub mod UnusedRanks
+pub mod SortedNames
 pub mod UnusedRows
 pub mod CallRows
 pub mod NamelessRows

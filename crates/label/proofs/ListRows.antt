@@ -23,7 +23,7 @@ use Rattle.rules.proofs.Nesting.{item-from, child-around}
 use Rattle.rules.proofs.Around.{Innermost, innermost-found, innermost-last, innermost-none}
 use Rattle.rules.proofs.Lists.{found-innermost, none-innermost, statement-list}
 use Rattle.tables.specs.Canon.{Tables}
-use Rattle.branches.proofs.CanonRows.{body-end}
+use Rattle.tables.proofs.Labelling.{body-end}
 use Rattle.label.specs.Contexts.{Listing}
 
 -- ---- rules of the classes

@@ -20,7 +20,7 @@ use Rattle.context.specs.declared.Context.{Context}
 use Rattle.context.specs.Fields.{withLatest, withLabel}
 use Rattle.tables.specs.Canon.{Tables}
 use Rattle.branches.specs.Walk.{latestIn, currentLabel}
-use Rattle.branches.proofs.CanonRows.{label-numbered, numbered-label}
+use Rattle.tables.proofs.Labelling.{label-numbered, numbered-label}
 use Rattle.branches.proofs.TableRows.{canon-read}
 use Rattle.label.specs.Contexts.{latestLabel, ListTable, Listing, Contexts}
 use Rattle.label.proofs.ListRows.{list-before, InList, listing, block-word, in-list}

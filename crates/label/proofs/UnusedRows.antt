@@ -1,42 +1,42 @@
--- The last faults, one for each declared label that is not used, by canonical number. There is room since each is a declared label of its own canonical number,
+-- The last faults, one for each declared label that is not used, by rank. The names of these labels, sorted, have rising ranks, and no other rank has a fault;
+-- so one name further is one fault further, and after the last name the sheet is whole. There is room since each is a declared label of its own,
 -- and a declared label keeps room for its fault.
 -- Assumes nothing.
 use mathlib.Core.Path.{_≡_, sym, _∙_, ap}
-use mathlib.Core.Bool.{Bool, true, _&&_, not}
+use mathlib.Core.Bool.{false}
+use mathlib.Core.Logic.{inl, inr}
 use mathlib.Core.List.{List, [], _∷_, _++_, append-nil, append-assoc}
 use mathlib.Core.Option.{some}
 use Prim.Native.Nat.{ℕ, zero, suc, _+_, _*_, _-_, _≤_, _<_}
+use native.Mathlib.Numerals.{add-one}
 use native.Mathlib.Omega.{arith}
-use lib.Dec.{eqb, leb}
+use native.Mathlib.Decide.{decLt, ℕ-discrete}
 use lib.ListN.{length, getD}
 use lib.Seq.{sets}
-use borrow.Author.Tests.{eq-eqb, ne-eqb, le-leb, lt-leb, leb-true, not-true, not-false}
-use Rattle.rules.specs.Scan.{howMany}
 use Rattle.rules.specs.Rows.{rowCount, position, name}
 use Rattle.rules.specs.Names.{pairCount, rank}
 use Rattle.rules.specs.Body.{Body}
-use Rattle.rules.specs.Labels.{Fault, each, fault, word, declared, declaredAt, unresolved, report, used, unused, sheet as sheetOf}
-use Rattle.rules.proofs.Test.{case-of, case-found, and-true, true-and}
-use Rattle.rules.proofs.Scan.{howMany-le, howMany-lt}
+use Rattle.rules.specs.Labels.{Fault, each, fault, word, unresolved, report, used, unused, sheet as sheetOf}
 use Rattle.rules.proofs.Each.{each-zero, each-suc}
-use Rattle.rules.proofs.Found.{found-is, word-found}
-use Rattle.rules.proofs.SheetRows.{unused-none, unused-not, unused-is, is-ranked, is-declared-at}
-use Rattle.tables.specs.Canon.{rowCanon, DeclaredTable}
+use Rattle.rules.proofs.Order.{rank-above, rank-within}
+use Rattle.sorting.specs.Sorted.{Sorted}
+use Rattle.tables.specs.Canon.{declaredFor, DeclaredTable}
 use Rattle.branches.specs.Walk.{faultsAt}
 use Rattle.branches.proofs.WalkFaults.{snoc-length, put-length, put-reported, put-kept}
-use Rattle.branches.proofs.WalkRoom.{isDeclared}
-use Rattle.branches.proofs.CanonRows.{numbered, body-end, label-numbered, declared-canon}
-use Rattle.label.specs.Rest.{Reported, faultsLeft, UsedTable}
+use Rattle.tables.proofs.Labelling.{body-end}
+use Rattle.label.specs.Rest.{Reported, faultsLeft, UnusedTo}
 use Rattle.label.specs.Left.{leftAt}
 use Rattle.label.proofs.LeftRows.{left-count, all-room}
 use Rattle.label.proofs.LeftTurns.{drop-further}
+use Rattle.label.proofs.UnusedNames.{is-unused, unused-few}
+use Rattle.label.proofs.UnusedRanks.{label-for, its-nine, element, in-list, ranks-up, ranks-rise}
 
--- ---- the sheet with the names up to k
+-- ---- the sheet with the ranks up to k
 module _ (w p b : List ℕ) where
   unfoldable pub ninesTo : ℕ → List Fault
   ninesTo k = faultsLeft w p b ++ each (λ i. unused w p b 0 (suc i)) k
 
-  pub nines-zero : ninesTo 0 ≡ faultsLeft w p b
+  nines-zero : ninesTo 0 ≡ faultsLeft w p b
   unfolding ninesTo
   nines-zero = ap (λ (l : List Fault). faultsLeft w p b ++ l) (each-zero (λ i. unused w p b 0 (suc i))) ∙ append-nil (faultsLeft w p b)
 
@@ -52,9 +52,13 @@ module _ (w p b : List ℕ) where
   nines-one : (k : ℕ) (f : Fault) → unused w p b 0 (suc k) ≡ f ∷ [] → ninesTo (suc k) ≡ ninesTo k ++ f ∷ []
   nines-one k f e = rw (nines-suc k, e)
 
-  -- a declared label with a canonical number up to k
-  abbrev isTo : ℕ → ℕ → Bool
-  isTo k r = isDeclared w p b r && leb (rank p b (name w r)) k
+  -- no fault between two ranks
+  nines-gap : (a k : ℕ) → a ≤ k → ((i : ℕ) → a < i → i ≤ k → unused w p b 0 i ≡ []) → ninesTo k ≡ ninesTo a
+  nines-gap a zero h none = let e : 0 ≡ a = omega arith in ap ninesTo e
+  nines-gap a (suc k) h none = elim (ℕ-discrete a (suc k)) [
+    | yes e ↦ ap ninesTo (sym e)
+    | no o ↦ nines-none k (none (suc k) (omega arith) (omega arith)) ∙ nines-gap a k (omega arith) (λ i l m. none i l (omega arith))
+  ]
 
 -- all of it
 pub nines-sheet : {w p b : List ℕ} → Body w p b → ninesTo w p b (pairCount p) ≡ sheetOf w p b 0
@@ -64,148 +68,137 @@ nines-sheet {w} {p} {b} body =
     append-assoc (each (report w p b 0) (rowCount w)) (each (unresolved w p b 0) (rowCount w)) (each (λ i. unused w p b 0 (suc i)) (pairCount p))
     ∙ ap (λ (n : ℕ). each (report w p b 0) n ++ (each (unresolved w p b 0) n ++ each (λ i. unused w p b 0 (suc i)) (pairCount p))) (sym e)
 
-module _ {w p b : List ℕ} (body : Body w p b) where
-  -- the declared label of a canonical number is declared, and of that number
-  label-at : (c d : ℕ) → declaredAt w p b 0 c ≡ some d → (d < rowCount w) × (isDeclared w p b d ≡ true) × (rank p b (name w d) ≡ c)
-  label-at c d e =
-      let n = body-end body in
-      let i = is-declared-at w p b 0 c d e in
-      let x = is-ranked w p b 0 c d (i .1) in
-      let row : d < rowCount w = omega (arith, i .0) in
-      let z = label-numbered body d row (x .0) in
-      let number : rowCanon w p b d ≡ c = numbered p b (name w d) z .is-rank ∙ x .1 in
-      let own : declared w p b 0 d ≡ some d = sym (declared-canon body d row z) ∙ ap (declaredAt w p b 0) number ∙ e in
-      (row, rw (x .0, found-is (declared w p b 0 d) d own), x .1)
+-- ---- the rank up to which the sheet is written after the first j names of s
+unfoldable pub upTo : List ℕ → List ℕ → List ℕ → ℕ → ℕ
+upTo p b s zero = 0
+upTo p b s (suc j) = rank p b (getD s j 0)
 
-  nines-more : (k : ℕ) → length (ninesTo w p b (suc k)) + howMany (isTo w p b k) (rowCount w) ≤ length (ninesTo w p b k) + howMany (isTo w p b (suc k)) (rowCount w)
-  nines-more k =
-      case-found (declaredAt w p b 0 (suc k))
-      (λ d e. case-of (used w p b 0 d)
-      (λ t. none-more (unused-not w p b 0 (suc k) d e t))
-      (λ t.
-      let (row, own, rank-is) = label-at (suc k) d e in
-      let q : length (ninesTo w p b (suc k)) ≡ length (ninesTo w p b k) + 1 =
-      ap length (nines-one w p b k (fault w 9 d) (unused-is w p b 0 (suc k) d e t)) ∙ snoc-length (ninesTo w p b k) (fault w 9 d) in
-      omega (
-        arith,
-        howMany-lt (isTo w p b k) (isTo w p b (suc k)) (rowCount w) d weaker row
-            (rw (own, lt-leb (rank p b (name w d)) k (omega arith)))
-            (rw (own, le-leb (rank p b (name w d)) (suc k) (omega arith))),
-      )))
-      (λ e. none-more (unused-none w p b 0 (suc k) e))
-    where
-      weaker : (r : ℕ) → r < rowCount w → isTo w p b k r ≡ true → isTo w p b (suc k) r ≡ true
-      weaker r h t =
-          let x = and-true (isDeclared w p b r) (leb (rank p b (name w r)) k) t in
-          true-and (isDeclared w p b r) (leb (rank p b (name w r)) (suc k)) (x .0)
-          (le-leb (rank p b (name w r)) (suc k) (omega (arith, leb-true (rank p b (name w r)) k (x .1))))
+module _ {w p b : List ℕ} (body : Body w p b) (s : List ℕ) (all : UnusedTo w p b (pairCount p) s) (sorted : Sorted p b s) where
+  -- the ranks of the first j names are up to there, and that of the next is past it
+  passed : (i j : ℕ) → i < j → j ≤ length s → rank p b (getD s i 0) ≤ upTo p b s j
+  unfolding upTo
+  passed i zero h l = absurd (omega arith)
+  passed i (suc j) h l = ranks-up body s all sorted i j (omega arith) (omega arith)
 
-      none-more : unused w p b 0 (suc k) ≡ [] → length (ninesTo w p b (suc k)) + howMany (isTo w p b k) (rowCount w)
-          ≤ length (ninesTo w p b k) + howMany (isTo w p b (suc k)) (rowCount w)
-      none-more u =
-          let q : length (ninesTo w p b (suc k)) ≡ length (ninesTo w p b k) = ap length (nines-none w p b k u) in
-          omega (arith, howMany-le (isTo w p b k) (isTo w p b (suc k)) (rowCount w) weaker)
+  ahead : (j : ℕ) → j < length s → upTo p b s j < rank p b (getD s j 0)
+  unfolding upTo
+  ahead zero l = rank-above p b (getD s 0 0)
+  ahead (suc j) l = ranks-rise body s all sorted j (suc j) (omega arith) l
 
-  nines-count : (k : ℕ) → length (ninesTo w p b k) ≤ length (faultsLeft w p b) + howMany (isTo w p b k) (rowCount w)
-  nines-count zero = rw (nines-zero w p b) (omega arith)
-  nines-count (suc k) = omega (arith, nines-count k, nines-more k)
+  -- up to a rank k below those of the names that are left there is no fault more
+  gap : (j k : ℕ) → j ≤ length s → upTo p b s j ≤ k → ((i : ℕ) → j ≤ i → i < length s → k < rank p b (getD s i 0)) → ninesTo w p b k ≡ ninesTo w p b (upTo p b s j)
+  gap j k h l left = nines-gap w p b (upTo p b s j) k l (λ r a m. elim (in-list body s all r) [
+    | inl e ↦ e
+    | inr (i, n, e) ↦ elim (decLt i j) [
+      | yes o ↦ absurd (omega (arith, passed i j o h))
+      | no o ↦ absurd (omega (arith, left i (omega arith) n))
+    ]
+  ])
 
-  nines-room : (k : ℕ) → length (ninesTo w p b k) ≤ 2 * rowCount w
+  -- the next name
+  nines-next : (j d : ℕ) → j < length s → declaredFor w p b (getD s j 0) ≡ some d → used w p b 0 d ≡ false
+      → ninesTo w p b (upTo p b s (suc j)) ≡ ninesTo w p b (upTo p b s j) ++ fault w 9 d ∷ []
+  unfolding upTo
+  nines-next j d h e f =
+      let r = rank p b (getD s j 0) in
+      let i : suc (r - 1) ≡ r = omega (arith, ahead j h) in
+      let one : unused w p b 0 (suc (r - 1)) ≡ fault w 9 d ∷ [] = rw i (its-nine body (getD s j 0) d e f) in
+      ap (ninesTo w p b) (sym i) ∙ nines-one w p b (r - 1) (fault w 9 d) one
+      ∙ ap (λ (l : List Fault). l ++ fault w 9 d ∷ []) (gap j (r - 1) (omega arith) (omega (arith, ahead j h))
+      (λ i m n. omega (arith, ranks-up body s all sorted j i m n, ahead j h)))
+
+  -- after the last one
+  within : (j : ℕ) → j ≤ length s → upTo p b s j ≤ pairCount p
+  unfolding upTo
+  within zero l = omega arith
+  within (suc j) l =
+      let (d, e, u) = is-unused w p b (getD s j 0) (element body s all j (omega arith)) in
+      let x = label-for body (getD s j 0) d e in
+      rank-within p b (getD s j 0) (x .above) (x .within)
+
+  nines-end : ninesTo w p b (upTo p b s (length s)) ≡ sheetOf w p b 0
+  nines-end = sym (gap (length s) (pairCount p) (omega arith) (within (length s) (omega arith)) (λ i m n. absurd (omega arith))) ∙ nines-sheet body
+
+  nines-length : (j : ℕ) → j ≤ length s → length (ninesTo w p b (upTo p b s j)) ≡ length (faultsLeft w p b) + j
+  unfolding upTo
+  nines-length zero h = omega (arith, ap length (nines-zero w p b))
+  nines-length (suc j) h =
+      let (d, e, u) = is-unused w p b (getD s j 0) (element body s all j (omega arith)) in
+      let q = ap length (nines-next j d (omega arith) e u) ∙ snoc-length (ninesTo w p b (upTo p b s j)) (fault w 9 d) in
+      omega (arith, nines-length j (omega arith))
+
+  nines-room : length (faultsLeft w p b) + length s ≤ 2 * rowCount w
   unfolding faultsLeft leftAt
-  nines-room k = omega (
-    arith,
-    nines-count k,
-    left-count w p b (rowCount w),
-    all-room body,
-    howMany-le (isTo w p b k) (isDeclared w p b) (rowCount w) (λ r h t. and-true (isDeclared w p b r) (leb (rank p b (name w r)) k) t .0),
-  )
+  nines-room = omega (arith, unused-few body (pairCount p) s all, left-count w p b (rowCount w), all-room body)
 
--- ---- the loop over the canonical numbers: the state before the number c
-module _ (w p b : List ℕ) where
-  abbrev pub Nines : ℕ → ℕ → List ℕ → List ℕ → Type 0
-  Nines c at s₀ s = (1 ≤ c) × (c ≤ pairCount p + 1) × Reported at (ninesTo w p b (c - 1)) s₀ s
+-- ---- the loop over the names: the state before the j-th
+abbrev pub Nines : (w p b s : List ℕ) → ℕ → ℕ → List ℕ → List ℕ → Type 0
+Nines w p b s j at t₀ t = (j ≤ length s) × Reported at (ninesTo w p b (upTo p b s j)) t₀ t
 
-  pub nines-start : (at : ℕ) (s : List ℕ) → Reported at (faultsLeft w p b) s s → Nines 1 at s s
-  nines-start at s x = (omega arith, omega arith, rw (nines-zero w p b) x)
+pub nines-start : (w p b s : List ℕ) (at : ℕ) (t : List ℕ) → Reported at (faultsLeft w p b) t t → Nines w p b s 0 at t t
+unfolding upTo
+nines-start w p b s at t x = (omega arith, rw (nines-zero w p b) x)
 
-pub nines-end : {w p b : List ℕ} (c at : ℕ) (s₀ s : List ℕ) → Body w p b → pairCount p < c → Nines w p b c at s₀ s → Reported at (sheetOf w p b 0) s₀ s
-nines-end {w} {p} {b} c at s₀ s body h (y, z, x) =
-    let e : c - 1 ≡ pairCount p = omega arith in
-    rw (ap (ninesTo w p b) e ∙ nines-sheet body) at x
+pub nines-all : {w p b : List ℕ} (s : List ℕ) (j at : ℕ) (t₀ t : List ℕ) → Body w p b → Sorted p b s → UnusedTo w p b (pairCount p) s → length s ≤ j → Nines w p b s j at t₀ t
+    → Reported at (sheetOf w p b 0) t₀ t
+nines-all {w} {p} {b} s j at t₀ t body sorted all h (l, x) =
+    let e : j ≡ length s = omega arith in
+    rw (ap (λ (n : ℕ). ninesTo w p b (upTo p b s n)) e ∙ nines-end body s all sorted) at x
 
--- the number c, with the word d in the table of declared labels
-pub record AtNumber (w p b ds u s₀ s : List ℕ) (c at d : ℕ) : Type 0 where
+-- the j-th name c, with the word d in the table of declared labels
+pub record AtName (w p b ds s t₀ t : List ℕ) (j at c d : ℕ) : Type 0 where
   pub body : Body w p b
   pub by-canon : DeclaredTable w p b ds
-  pub uses : UsedTable w p b u
-  pub room : rowCount w * 8 ≤ length s₀
-  pub within : c ≤ pairCount p
+  pub sorted : Sorted p b s
+  pub all : UnusedTo w p b (pairCount p) s
+  pub room : rowCount w * 8 ≤ length t₀
+  pub more : j < length s
+  pub name-is : c ≡ getD s j 0
   pub word-is : d ≡ getD ds c 0
-  pub state : Nines w p b c at s₀ s
+  pub state : Nines w p b s j at t₀ t
 
-module _ {w p b ds u s₀ s : List ℕ} {c at d : ℕ} (n : AtNumber w p b ds u s₀ s c at d) where
-  its-word : d ≡ word (declaredAt w p b 0 c)
-  its-word = n .word-is ∙ n .by-canon .at-canon c (n .state .0) (n .within)
+-- a name of the list is within the table
+pub name-within-table : {w p b ds : List ℕ} (s : List ℕ) (j : ℕ) → Body w p b → DeclaredTable w p b ds → UnusedTo w p b (pairCount p) s → j < length s → getD s j 0 < length ds
+name-within-table {w} {p} {b} {ds} s j body by-canon all h =
+    let (d, e, u) = is-unused w p b (getD s j 0) (element body s all j h) in
+    omega (arith, label-for body (getD s j 0) d e .within, by-canon .room)
 
-  number : suc (c - 1) ≡ c
-  number = omega (arith, n .state .0)
+module _ {w p b ds s t₀ t : List ℕ} {j at c d : ℕ} (n : AtName w p b ds s t₀ t j at c d) where
+  -- its label, which is not used
+  label : (e : ℕ) × (declaredFor w p b (getD s j 0) ≡ some e) × (used w p b 0 e ≡ false) × (d ≡ suc e)
+  label =
+      let (e, f, u) = is-unused w p b (getD s j 0) (element (n .body) s (n .all) j (n .more)) in
+      let x = label-for (n .body) (getD s j 0) e f in
+      (e, f, u, n .word-is ∙ ap (λ (k : ℕ). getD ds k 0) (n .name-is) ∙ n .by-canon .at-canon (getD s j 0) (x .above) (x .within) ∙ ap word f)
 
-  next-number : (c + 1) - 1 ≡ suc (c - 1)
-  next-number = omega (arith, n .state .0)
+  pub some-word : 1 ≤ d
+  some-word = omega (arith, label .3)
 
-  next : (at′ : ℕ) (s′ : List ℕ) → Reported at′ (ninesTo w p b (suc (c - 1))) s₀ s′ → Nines w p b (c + 1) at′ s₀ s′
-  next at′ s′ x = (omega arith, omega (arith, n .within), rw next-number x)
+  pub label-row : d - 1 < rowCount w
+  label-row = let (e, f, u, i) = label in omega (arith, label-for (n .body) (getD s j 0) e f .row)
 
-  turn-same : unused w p b 0 c ≡ [] → Nines w p b (c + 1) at s₀ s
-  turn-same e = next at s (rw (nines-none w p b (c - 1) (rw number e)) (n .state .2))
+  longer : at + 1 ≤ 2 * rowCount w
+  longer = omega (arith, n .more, n .state .1 .count, nines-length (n .body) s (n .all) (n .sorted) j (n .state .0), nines-room (n .body) s (n .all) (n .sorted))
 
-  -- no label
-  pub turn-none : d ≡ 0 → (at″ : ℕ) (s″ : List ℕ) → at″ ≡ at → s″ ≡ s → Nines w p b (c + 1) at″ s₀ s″
-  turn-none z at″ s″ i j = rw (i, j) (turn-same (unused-none w p b 0 c (case-found (declaredAt w p b 0 c)
-      (λ k e. let f = its-word ∙ ap word e in absurd (omega arith))
-      (λ e. e))))
+  pub fault-small : at + 1 ≤ 4000
+  fault-small = omega (arith, longer, n .body .most-rows)
 
-  module _ (z : d ≡ 0 → ⊥) where
-    label : declaredAt w p b 0 c ≡ some (d - 1)
-    label = let i : suc (d - 1) ≡ d = omega arith in word-found (declaredAt w p b 0 c) (d - 1) (sym its-word ∙ sym i)
+  pub fault-fits : at * 4 + 4 ≤ length t
+  fault-fits = omega (arith, longer, n .state .1 .sheet-length, n .room)
 
-    pub label-row : d - 1 < rowCount w
-    label-row = label-at (n .body) c (d - 1) label .0
-
-    its-use : eqb (getD u c 0) 0 ≡ not (used w p b 0 (d - 1))
-    its-use = n .uses .at-canon c (d - 1) (n .state .0) (n .within) label
-
-    -- a label that is used
-    pub turn-used : (getD u c 0 ≡ 0 → ⊥) → (at″ : ℕ) (s″ : List ℕ) → at″ ≡ at → s″ ≡ s → Nines w p b (c + 1) at″ s₀ s″
-    turn-used o at″ s″ i j =
-        rw (i, j) (turn-same (unused-not w p b 0 c (d - 1) label (not-false (used w p b 0 (d - 1)) (sym its-use ∙ ne-eqb (getD u c 0) 0 o))))
-
-    -- and one that is not
-    module _ (o : getD u c 0 ≡ 0) where
-      its-fault : unused w p b 0 (suc (c - 1)) ≡ fault w 9 (d - 1) ∷ []
-      its-fault = rw number (unused-is w p b 0 c (d - 1) label (not-true (used w p b 0 (d - 1)) (sym its-use ∙ eq-eqb (getD u c 0) 0 o)))
-
-      longer : length (ninesTo w p b (c - 1)) + 1 ≤ 2 * rowCount w
-      longer =
-          let e : length (ninesTo w p b (suc (c - 1))) ≡ length (ninesTo w p b (c - 1)) + 1 =
-          ap length (nines-one w p b (c - 1) (fault w 9 (d - 1)) its-fault) ∙ snoc-length (ninesTo w p b (c - 1)) (fault w 9 (d - 1)) in
-          omega (arith, nines-room (n .body) (suc (c - 1)))
-
-      pub fault-small : at + 1 ≤ 4000
-      fault-small = omega (arith, longer, n .state .2 .count, n .body .most-rows)
-
-      pub fault-fits : at * 4 + 4 ≤ length s
-      fault-fits = omega (arith, longer, n .state .2 .count, n .state .2 .sheet-length, n .room)
-
-      pub turn-unused : (at″ : ℕ) (s′ s″ : List ℕ) → s′ ≡ sets s (at * 4) (9 ∷ position w (d - 1) ∷ name w (d - 1) ∷ 0 ∷ []) → at″ ≡ at + 1 → s″ ≡ s′
-          → Nines w p b (c + 1) at″ s₀ s″
-      turn-unused at″ s′ s″ e i j =
-          let f = fault w 9 (d - 1) in
-          let q = nines-one w p b (c - 1) f its-fault in
-          let x = n .state .2 in
-          rw (i, j) (next (at + 1) s′ (record {
-            count = ap (λ (k : ℕ). k + 1) (x .count) ∙ sym (ap length q ∙ snoc-length (ninesTo w p b (c - 1)) f);
-            reported = rw (e, q) (put-reported s at f fault-fits (ninesTo w p b (c - 1)) (x .reported));
-            sheet-length = ap length e ∙ put-length s at f fault-fits ∙ x .sheet-length;
-            sheet-kept = rw e (put-kept s at f fault-fits) ∙ drop-further (at * 4) ((at + 1) * 4) s s₀ (omega arith) (x .sheet-kept);
-          }))
+  pub turn : (t′ : List ℕ) → t′ ≡ sets t (at * 4) (9 ∷ position w (d - 1) ∷ name w (d - 1) ∷ 0 ∷ []) → Nines w p b s (j + 1) (at + 1) t₀ t′
+  turn t′ i =
+      let (e, g, u, k) = label in
+      let m : d - 1 ≡ e = omega arith in
+      let f = fault w 9 (d - 1) in
+      let before = ninesTo w p b (upTo p b s j) in
+      let q : ninesTo w p b (upTo p b s (j + 1)) ≡ before ++ f ∷ [] = rw (add-one j, m) (nines-next (n .body) s (n .all) (n .sorted) j e (n .more) g u) in
+      let x = n .state .1 in (
+        omega (arith, n .more),
+        record {
+          count = ap (λ (k : ℕ). k + 1) (x .count) ∙ sym (ap length q ∙ snoc-length before f);
+          reported = rw (i, q) (put-reported t at f fault-fits before (x .reported));
+          sheet-length = ap length i ∙ put-length t at f fault-fits ∙ x .sheet-length;
+          sheet-kept = rw i (put-kept t at f fault-fits) ∙ drop-further (at * 4) ((at + 1) * 4) t t₀ (omega arith) (x .sheet-kept);
+        },
+      )

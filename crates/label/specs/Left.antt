@@ -11,8 +11,9 @@ use Rattle.rules.specs.Scan.{lowest}
 use Rattle.rules.specs.Rows.{rowCount, end}
 use Rattle.rules.specs.Class.{isBranch, class}
 use Rattle.rules.specs.Names.{pairCount}
-use Rattle.rules.specs.Labels.{Fault, each, is, isSome, pending, binding, declared, unresolved, declaredAt}
+use Rattle.rules.specs.Labels.{Fault, each, is, isSome, pending, binding, declared, unresolved}
 use Rattle.rules.specs.Calls.{faultWords}
+use Rattle.tables.specs.Canon.{declaredFor}
 use Rattle.branches.specs.Walk.{faultsAt}
 
 module _ (w p b : List ℕ) where
@@ -27,7 +28,7 @@ module _ (w p b : List ℕ) where
 
   -- which declared labels they use, by canonical number
   abbrev pub UsedBefore : ℕ → List ℕ → Type 0
-  UsedBefore r useds = (c d : ℕ) → 0 < c → c ≤ pairCount p → declaredAt w p b 0 c ≡ some d → eqb (getD useds c 0) 0 ≡ not (usedBefore r d)
+  UsedBefore r useds = (c d : ℕ) → 0 < c → c ≤ pairCount p → declaredFor w p b c ≡ some d → eqb (getD useds c 0) 0 ≡ not (usedBefore r d)
 
   pub record Left (r faults : ℕ) (sheet useds : List ℕ) : Type 0 where
     pub count : faults ≡ length (leftAt r)

@@ -1,16 +1,19 @@
 -- What the walk hands on to the end of the sheet.
 -- Assumes nothing.
 use mathlib.Core.Path.{_≡_}
-use mathlib.Core.Bool.{not}
+use mathlib.Core.Bool.{Bool, false, _&&_, not}
 use mathlib.Core.List.{List, _++_}
-use mathlib.Core.Option.{some}
-use Prim.Native.Nat.{ℕ, _*_, _≤_, _<_}
+use mathlib.Core.Option.{none, some}
+use Prim.Native.Nat.{ℕ, suc, _*_, _≤_, _<_}
 use lib.Dec.{eqb}
 use lib.ListN.{length, getD, take, drop}
+use Rattle.rules.specs.Scan.{howMany}
 use Rattle.rules.specs.Rows.{rowCount}
 use Rattle.rules.specs.Names.{pairCount}
-use Rattle.rules.specs.Labels.{Fault, each, unresolved, used, declaredAt}
+use Rattle.rules.specs.Labels.{Fault, each, unresolved, used}
 use Rattle.rules.specs.Calls.{faultWords}
+use Rattle.sorting.specs.Sorted.{passing}
+use Rattle.tables.specs.Canon.{declaredFor}
 use Rattle.branches.specs.Walk.{faultsAt, bindingsAt}
 
 -- the first rows of a sheet are these faults, n of them, and the words past them are as they were
@@ -36,4 +39,12 @@ module _ (w p b : List ℕ) where
   -- which declared labels are used, by canonical number
   pub record UsedTable (useds : List ℕ) : Type 0 where
     pub room : pairCount p < length useds
-    pub at-canon : (c d : ℕ) → 0 < c → c ≤ pairCount p → declaredAt w p b 0 c ≡ some d → eqb (getD useds c 0) 0 ≡ not (used w p b 0 d)
+    pub at-canon : (c d : ℕ) → 0 < c → c ≤ pairCount p → declaredFor w p b c ≡ some d → eqb (getD useds c 0) 0 ≡ not (used w p b 0 d)
+
+  -- the label declared for the canonical number c is not used
+  unfoldable pub isUnused : ℕ → Bool
+  isUnused c = elim (declaredFor w p b c) [ none ↦ false | some d ↦ not (used w p b 0 d) ]
+
+  -- s holds the canonical numbers up to k of labels that are not used, each once
+  abbrev pub UnusedTo : ℕ → List ℕ → Type 0
+  UnusedTo k s = (P : ℕ → Bool) → passing P s ≡ howMany (λ i. isUnused (suc i) && P (suc i)) k

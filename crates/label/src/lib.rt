@@ -56,7 +56,8 @@ fn clear(bindings: &mut [u32], count: usize)
     }
 }
 
-// The walk and what is left at its end, over tables of exact use.
+// The walk and what is left at its end. The tables of the pending gotos are free by then, and serve
+// to sort the unused labels.
 fn walk_body(
     rows: &[u32],
     pairs: &[u32],
@@ -104,7 +105,17 @@ fn walk_body(
         used,
         walked,
     );
-    rest::unused(rows, pairs, bytes, declareds, used, sheet, more)
+    rest::unused(
+        rows,
+        pairs,
+        bytes,
+        declareds,
+        used,
+        heads,
+        links,
+        sheet,
+        more,
+    )
 }
 
 // The walk over tables for 500 names and 2,000 rows, once the bindings are 0.

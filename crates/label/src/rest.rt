@@ -1,15 +1,16 @@
 // What is left at the end of the walk: gotos without a label, and labels that nothing used.
 ghost use mathlib.Core.Path.{_≡_};
 ghost use Prim.Native.Nat.{ℕ, suc, _*_, _≤_, _<_};
-ghost use lib.ListN.{length, getD};
+ghost use lib.ListN.{length, getD, take};
 ghost use Rattle.rules.specs.Rows.{rowCount, kind};
 ghost use Rattle.rules.specs.Names.{pairCount};
 ghost use Rattle.rules.specs.Body.{Body};
 ghost use Rattle.rules.specs.Labels.{sheet as sheetOf};
+ghost use Rattle.sorting.specs.Sorted.{Sorted};
 ghost use Rattle.tables.specs.Canon.{CanonTable, DeclaredTable};
 ghost use Rattle.branches.specs.Walk.{bindingAt};
 ghost use Rattle.label.specs.Left.{Left, LeftOver};
-ghost use Rattle.label.specs.Rest.{Reported, AtEnd, UsedTable, faultsLeft};
+ghost use Rattle.label.specs.Rest.{Reported, AtEnd, UsedTable, UnusedTo, faultsLeft};
 use branches::sheet;
 use rows::RowNumber;
 
@@ -100,32 +101,80 @@ pub fn unresolved(
     at
 }
 
-// 9 for each declared label that nothing used, by canonical number.
+// Writes the canonical numbers of the labels that nothing used to the start of `names`. It answers
+// how many they are.
+fn unused_names(
+    rows: &[u32],
+    pairs: &[u32],
+    bytes: &[u8],
+    declareds: &[u16],
+    used: &[u8],
+    names: &mut [u16],
+) -> usize
+    requires { ⌜ Body (now rows) (now pairs) (now bytes) × DeclaredTable (now rows) (now pairs) (now bytes) (now declareds) × UsedTable (now rows) (now pairs) (now bytes) (now used) ⌝ }
+    requires { ⌜ pairCount (now pairs) < length (now names) ⌝ }
+    ensures { λ r. ⌜ (r ≤ pairCount (now (pairs .entry))) × (r ≤ rowCount (now (rows .entry))) × UnusedTo (now (rows .entry)) (now (pairs .entry)) (now (bytes .entry)) (pairCount (now (pairs .entry))) (take r (now (names .exit))) ⌝ }
+{
+    let count = pairs.len() / 2;
+    let mut n = 0;
+    let mut c = 1;
+    while c <= count {
+        if declareds[c] != 0 {
+            if used[c] == 0 {
+                names[n] = c as u16;
+                n += 1;
+            }
+        }
+        c += 1;
+    }
+    n
+}
+
+// 9 for the label of each of the names, in their order.
+fn put_unused(
+    rows: &[u32],
+    pairs: &[u32],
+    bytes: &[u8],
+    declareds: &[u16],
+    names: &[u16],
+    sheet: &mut [u32],
+    faults: usize,
+) -> usize
+    requires { ⌜ Body (now rows) (now pairs) (now bytes) × DeclaredTable (now rows) (now pairs) (now bytes) (now declareds) ⌝ }
+    requires { ⌜ Sorted (now pairs) (now bytes) (now names) × UnusedTo (now rows) (now pairs) (now bytes) (pairCount (now pairs)) (now names) ⌝ }
+    requires { ⌜ Reported faults (faultsLeft (now rows) (now pairs) (now bytes)) (now sheet) (now sheet) × (rowCount (now rows) * 8 ≤ length (now sheet)) ⌝ }
+    ensures { λ r. ⌜ Reported r (sheetOf (now (rows .entry)) (now (pairs .entry)) (now (bytes .entry)) 0) (now (sheet .entry)) (now (sheet .exit)) ⌝ }
+{
+    let mut at = faults;
+    let mut j = 0;
+    while j < names.len() {
+        let c = wide(names[j]);
+        let declared = wide(declareds[c]);
+        sheet::put(rows, sheet, at, 9, RowNumber(declared - 1), 0);
+        at += 1;
+        j += 1;
+    }
+    at
+}
+
+// 9 for each declared label that nothing used, by name bytes. `names` and `spare` serve to sort.
 pub fn unused(
     rows: &[u32],
     pairs: &[u32],
     bytes: &[u8],
     declareds: &[u16],
     used: &[u8],
+    names: &mut [u16],
+    spare: &mut [u16],
     sheet: &mut [u32],
     faults: usize,
 ) -> usize
     requires { ⌜ Body (now rows) (now pairs) (now bytes) × DeclaredTable (now rows) (now pairs) (now bytes) (now declareds) × UsedTable (now rows) (now pairs) (now bytes) (now used) ⌝ }
+    requires { ⌜ (pairCount (now pairs) < length (now names)) × (rowCount (now rows) ≤ length (now spare)) ⌝ }
     requires { ⌜ Reported faults (faultsLeft (now rows) (now pairs) (now bytes)) (now sheet) (now sheet) × (rowCount (now rows) * 8 ≤ length (now sheet)) ⌝ }
     ensures { λ r. ⌜ Reported r (sheetOf (now (rows .entry)) (now (pairs .entry)) (now (bytes .entry)) 0) (now (sheet .entry)) (now (sheet .exit)) ⌝ }
 {
-    let count = pairs.len() / 2;
-    let mut at = faults;
-    let mut c = 1;
-    while c <= count {
-        let declared = wide(declareds[c]);
-        if declared != 0 {
-            if used[c] == 0 {
-                sheet::put(rows, sheet, at, 9, RowNumber(declared - 1), 0);
-                at += 1;
-            }
-        }
-        c += 1;
-    }
-    at
+    let n = unused_names(rows, pairs, bytes, declareds, used, names);
+    sorting::sort(pairs, bytes, &mut names[..n], &mut spare[..n]);
+    put_unused(rows, pairs, bytes, declareds, &names[..n], sheet, faults)
 }

@@ -1,6 +1,6 @@
-// Names: the bytes of each number, which names are the same, and the canonical numbers, with 500
-// names that share a long prefix. The answers in the file stdout were written by hand from document
-// 01 and the order of the bytes.
+// Names: the bytes of each number, which names are the same, and the numbers sorted, with 500 names
+// that share a long prefix. The answers in the file stdout were written by hand from document 01 and
+// its order of the bytes.
 use libc::STDOUT_FILENO;
 use names::NameNumber;
 
@@ -8,7 +8,7 @@ fn text(bytes: &[u8]) {
     io::write_all(STDOUT_FILENO, bytes);
 }
 
-fn number(n: u32) {
+fn number(n: u16) {
     io::print_decimal(STDOUT_FILENO, n as u64);
     text(b"\n");
 }
@@ -63,25 +63,29 @@ fn same() {
     show_same(&pairs, b"abaab", 0, 4);
 }
 
-fn rank(pairs: &[u32], bytes: &[u8], ranks: &mut [u32]) {
+fn sort(pairs: &[u32], bytes: &[u8], names: &mut [u16], spare: &mut [u16]) {
     if names::names_ok(pairs, bytes) {
-        if pairs.len() / 2 < ranks.len() {
-            canonical::canonical_numbers(pairs, bytes, ranks);
+        if spare.len() == names.len() {
+            sorting::sort(pairs, bytes, names, spare);
         }
     }
 }
 
-// ab, a, ab, 0xFF, and one more word, which stays 7.
+// ab, a, ab and 0xFF by number: a comes first, then ab twice, as merging leaves them, then 0xFF.
 fn few() {
-    text(b"canonical numbers\n");
-    let mut ranks = [7u32; 6];
-    rank(&[0u32, 2, 2, 1, 3, 2, 5, 1], b"abaab\xff", &mut ranks);
-    number(ranks[0]);
-    number(ranks[1]);
-    number(ranks[2]);
-    number(ranks[3]);
-    number(ranks[4]);
-    number(ranks[5]);
+    text(b"sorted\n");
+    let mut names = [1u16, 2, 3, 4];
+    let mut spare = [0u16; 4];
+    sort(
+        &[0u32, 2, 2, 1, 3, 2, 5, 1],
+        b"abaab\xff",
+        &mut names,
+        &mut spare,
+    );
+    number(names[0]);
+    number(names[1]);
+    number(names[2]);
+    number(names[3]);
 }
 
 // Pairs of 16 bytes each, one after the other.
@@ -110,37 +114,54 @@ fn fill_names(bytes: &mut [u8]) {
     }
 }
 
-// How many of the ranks from 1 on are not what counting down makes them.
-fn wrong(ranks: &[u32]) -> u32 {
-    let mut count: u32 = 0;
-    let mut due: u32 = 500;
-    let mut i = 1;
-    while i < ranks.len() {
-        if ranks[i] != due {
-            count = std::num::wrapping_add_u32(count, 1);
+// The numbers 1, 2, 3 and so on.
+fn fill_numbers(names: &mut [u16]) {
+    let mut n: u16 = 0;
+    let mut i = 0;
+    while i < names.len() {
+        n = std::num::wrapping_add_u16(n, 1);
+        names[i] = n;
+        i += 1;
+    }
+}
+
+// How many of the numbers are not what counting from `first` by `step` makes them.
+fn wrong(names: &[u16], first: u16, step: u16) -> u16 {
+    let mut count: u16 = 0;
+    let mut due = first;
+    let mut i = 0;
+    while i < names.len() {
+        if names[i] != due {
+            count = std::num::wrapping_add_u16(count, 1);
         }
-        due = std::num::wrapping_sub_u32(due, 1);
+        due = std::num::wrapping_add_u16(due, step);
         i += 1;
     }
     count
 }
 
-// 500 names that share 14 bytes, from the last to the first; then 500 equal ones.
+// Sorts the numbers of 500 names of 16 bytes: the first two, the last, and how many are wrong.
+fn show_sorted(bytes: &[u8], first: u16, step: u16) {
+    let mut pairs = [0u32; 1000];
+    let mut names = [0u16; 500];
+    let mut spare = [0u16; 500];
+    fill_pairs(&mut pairs);
+    fill_numbers(&mut names);
+    sort(&pairs, bytes, &mut names, &mut spare);
+    number(names[0]);
+    number(names[1]);
+    number(names[499]);
+    number(wrong(&names, first, step));
+}
+
+// 500 names that share 14 bytes, from the last to the first: the numbers come out turned round, and
+// adding 65535 counts down by one. Then 500 equal names: each number keeps its place.
 fn many() {
     text(b"500 names\n");
-    let mut pairs = [0u32; 1000];
-    fill_pairs(&mut pairs);
     let mut bytes = [120u8; 8000];
-    let mut ranks = [0u32; 501];
-    rank(&pairs, &bytes, &mut ranks);
-    number(ranks[1]);
-    number(ranks[500]);
     fill_names(&mut bytes);
-    rank(&pairs, &bytes, &mut ranks);
-    number(ranks[1]);
-    number(ranks[2]);
-    number(ranks[500]);
-    number(wrong(&ranks));
+    show_sorted(&bytes, 500, 65535);
+    show_sorted(&[120u8; 8000], 1, 1);
 }
 
 fn main() {

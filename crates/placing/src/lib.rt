@@ -8,6 +8,7 @@ use names::Found;
 use rows::RowNumber;
 ghost use mathlib.Core.Path.{_≡_};
 ghost use mathlib.Core.Bool.{true, false};
+ghost use mathlib.Core.Option.{none};
 ghost use Prim.Native.Nat.{_≤_, _<_};
 ghost use lib.ListN.{length};
 ghost use Rattle.rules.specs.Rows.{rowCount, kind, name};
@@ -208,12 +209,34 @@ fn placed_by_lists(rows: &[u32]) -> Found
     }
 }
 
+// Whether each Branch has a label, so that none is badly placed.
+fn all_labelled(rows: &[u32]) -> bool
+    requires { ⌜ Formed (now rows) ⌝ }
+    ensures { λ r. ⌜ (r ≡ true → placing (now (rows .entry)) 0 ≡ none) ⌝ }
+{
+    let count = rows.len() / 5;
+    let mut r = 0;
+    while r < count {
+        let row = RowNumber(r);
+        if rows::kind(rows, row) == 11 {
+            if rows::name_word(rows, row) == 0 {
+                return false;
+            }
+        }
+        r += 1;
+    }
+    true
+}
+
 // The first row badly placed of a well-formed body. Few bodies have a fallthrough, and the others
 // need no lists.
 pub fn placed(rows: &[u32]) -> Found
     requires { ⌜ Formed (now rows) ⌝ }
     ensures { λ r. ⌜ place r ≡ placing (now (rows .entry)) 0 ⌝ }
 {
+    if all_labelled(rows) {
+        return Found::Nowhere;
+    }
     let none = [0u16; 0];
     match first_badly_placed(rows, &none) {
         Search::At(r) => Found::At(r),

@@ -18,7 +18,7 @@ use Rattle.rules.specs.Verdict.{verdict}
 use Rattle.rules.specs.Calls.{Answer, refused, answered, faultWords, tooShort, labelCall, placingCall, verdictCall}
 use Rattle.rules.proofs.Facts.{body}
 use Rattle.rules.proofs.Test.{clash}
-use Rattle.branches.proofs.CanonRows.{body-end}
+use Rattle.tables.proofs.Labelling.{body-end}
 use Rattle.branches.proofs.WalkFaults.{words-length}
 use Rattle.branches.proofs.WalkBindings.{each-length}
 use Rattle.marking.specs.Marks.{marksCall}

@@ -24,6 +24,7 @@ pub mod GotoRows
 pub mod BreakRows
 pub mod BindingRows
 pub mod SheetRows
+pub mod RankRows
 pub mod FromLawful
 pub mod FromSheet
 pub mod SheetLaw

@@ -5,7 +5,7 @@ use mathlib.Core.Bool.{Bool, true, false, not}
 use mathlib.Core.Option.{Option, none, some}
 use Prim.Native.Nat.{ℕ, zero, suc, _+_, _<_, _≤_}
 use native.Mathlib.Omega.{arith}
-use native.Mathlib.Decide.{ℕ-discrete}
+use native.Mathlib.Decide.{ℕ-discrete, decLt}
 use Rattle.rules.specs.Scan.{lowest, highest, howMany}
 use Rattle.rules.proofs.Test.{case-of, case-found, clash}
 
@@ -92,6 +92,15 @@ module _ (P : ℕ → Bool) where
     | no o ↦ rw (above n (omega arith) (omega arith), found-highest n k (omega arith) t (λ j a b. above j a (omega arith)), highest)
   ]
 
+  -- one number more
+  pub highest-yes : (n : ℕ) → P n ≡ true → highest P (suc n) ≡ some n
+  unfolding highest
+  highest-yes n t = rw (t, highest)
+
+  pub highest-no : (n : ℕ) → P n ≡ false → highest P (suc n) ≡ highest P n
+  unfolding highest
+  highest-no n t = rw (t, highest)
+
   -- ---- how many
   pub howMany-most : (n : ℕ) → howMany P n ≤ n
   unfolding howMany
@@ -107,6 +116,21 @@ module _ (P : ℕ → Bool) where
   howMany-no n t = rw (t, howMany)
 
 -- two tests that agree below n
+pub lowest-same : (P Q : ℕ → Bool) (n : ℕ) → ((k : ℕ) → k < n → P k ≡ Q k) → lowest P n ≡ lowest Q n
+unfolding lowest
+lowest-same P Q zero h = refl
+lowest-same P Q (suc n) h =
+    let r = lowest-same P Q n (λ k l. h k (omega arith)) in
+    case-found (lowest Q n) (λ k e. rw (r ∙ e, e, lowest))
+    (λ e. case-of (Q n) (λ t. rw (r ∙ e, e, h n (omega arith) ∙ t, t, lowest)) (λ t. rw (r ∙ e, e, h n (omega arith) ∙ t, t, lowest)))
+
+pub highest-same : (P Q : ℕ → Bool) (n : ℕ) → ((k : ℕ) → k < n → P k ≡ Q k) → highest P n ≡ highest Q n
+unfolding highest
+highest-same P Q zero h = refl
+highest-same P Q (suc n) h =
+    let r = highest-same P Q n (λ k l. h k (omega arith)) in
+    case-of (Q n) (λ t. rw (h n (omega arith), t, highest)) (λ t. rw (h n (omega arith), t, r, highest))
+
 pub howMany-same : (P Q : ℕ → Bool) (n : ℕ) → ((k : ℕ) → k < n → P k ≡ Q k) → howMany P n ≡ howMany Q n
 unfolding howMany
 howMany-same P Q zero h = refl
@@ -136,3 +160,25 @@ howMany-lt P Q (suc n) k h l f t = elim (ℕ-discrete k n) [
       case-of (P n) (λ u. rw (u, h n (omega arith) u, howMany) (omega (arith, r)))
       (λ u. case-of (Q n) (λ v. rw (u, v, howMany) (omega (arith, r))) (λ v. rw (u, v, howMany) (omega (arith, r))))
 ]
+
+-- where some number passes the count is not 0, and where it is not 0 some number passes; where no two numbers pass it is at most 1
+module _ (P : ℕ → Bool) where
+  pub some-counted : (n k : ℕ) → k < n → P k ≡ true → 0 < howMany P n
+  some-counted n k h t = omega (arith, howMany-lt (λ i. false) P n k (λ j l f. absurd (clash (cc))) h refl t)
+
+  pub counted-some : (n : ℕ) → 0 < howMany P n → (k : ℕ) × (k < n) × (P k ≡ true)
+  counted-some zero h = absurd (omega (arith, howMany-most P 0))
+  counted-some (suc n) h = case-of (P n) (λ t. (n, omega arith, t))
+      (λ f. let r = counted-some n (omega (arith, howMany-no P n f)) in (r .0, omega (arith, r .1), r .2))
+
+  pub counted-once : (n : ℕ) → ((i j : ℕ) → i < n → j < n → P i ≡ true → P j ≡ true → i ≡ j) → howMany P n ≤ 1
+  counted-once zero one = omega (arith, howMany-most P 0)
+  counted-once (suc n) one = case-of (P n)
+      (λ t. elim (decLt 0 (howMany P n)) [
+        | yes l ↦
+            let (k, h, u) = counted-some n l in
+            let e = one k n (omega arith) (omega arith) u t in
+            absurd (omega arith)
+        | no o ↦ omega (arith, howMany-yes P n t)
+      ])
+      (λ f. omega (arith, howMany-no P n f, counted-once n (λ i j h l. one i j (omega arith) (omega arith))))

@@ -160,7 +160,7 @@ module _ (w p b : List ℕ) (root : ℕ) where
   unfoldable pub used : ℕ → Bool
   used d = isSome (lowest (λ g. isBranch (class w g) && (eqb (binding g) (suc d) || (pending (end w root) g && is (declared g) d))) (end w root))
 
-  -- the declared label of the name with the canonical number c
+  -- the declared label of the name with the rank c
   unfoldable pub declaredAt : ℕ → Option ℕ
   declaredAt c = lowest (λ r. isLabel r && eqb (rank p b (name w r)) c) (end w root)
 

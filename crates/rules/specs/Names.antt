@@ -61,6 +61,6 @@ sameName p b m n = sameBytes (nameBytes p b m) (nameBytes p b n)
 unfoldable pub isBlank : List ℕ → List ℕ → ℕ → Bool
 isBlank p b n = sameBytes (nameBytes p b n) (95 ∷ [])
 
--- the canonical number of a name: one more than the body's names whose bytes come before its own are many
+-- the rank of a name: one more than the body's names whose bytes come before its own are many
 unfoldable pub rank : List ℕ → List ℕ → ℕ → ℕ
 rank p b n = suc (howMany (λ i. bytesBefore (nameBytes p b (suc i)) (nameBytes p b n)) (pairCount p))

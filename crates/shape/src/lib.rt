@@ -4,7 +4,6 @@ use rows::RowNumber;
 ghost use mathlib.Core.Path.{_≡_};
 ghost use mathlib.Core.Bool.{Bool, true, not};
 ghost use Prim.Native.Nat.{ℕ, suc, _<_};
-ghost use lib.Dec.{ltb};
 ghost use Rattle.rules.specs.Scan.{lowest};
 ghost use Rattle.rules.specs.Rows.{rowCount, size, end};
 ghost use Rattle.rules.specs.Class.{block, isStatement, classOf, detailAllowed, base, class};
@@ -118,7 +117,7 @@ fn may_branch(i: usize, kind: u32) -> bool
 }
 
 // How many children there are at least.
-pub fn at_least(holding: Holding) -> usize
+fn at_least(holding: Holding) -> usize
     ensures { λ r. ⌜ r ≡ atLeast (held holding) ⌝ }
 {
     match holding {
@@ -129,22 +128,6 @@ pub fn at_least(holding: Holding) -> usize
         Holding::Statements => 0,
         Holding::Cases => 0,
         Holding::Comms => 0,
-    }
-}
-
-// Whether a row of this kind has at least one child.
-pub fn needs_children(kind: u32) -> bool
-    ensures { λ r. ⌜ ((d : ℕ) → detailAllowed kind d ≡ true → r ≡ ltb 0 (atLeast (holding (classOf kind d)))) ⌝ }
-{
-    match kind {
-        3 => true,
-        13 => true,
-        15 => true,
-        16 => true,
-        18 => true,
-        19 => true,
-        20 => true,
-        _ => false,
     }
 }
 

@@ -17,7 +17,7 @@ use Rattle.rules.specs.Rows.{rowCount, kind, detail, name, end}
 use Rattle.rules.specs.Class.{labeled, oneOf, detailAllowed, classOf, base, class}
 use Rattle.rules.specs.Names.{pairCount}
 use Rattle.rules.specs.Body.{Body}
-use Rattle.rules.specs.Labels.{declaredAt, word}
+use Rattle.rules.specs.Labels.{word}
 use Rattle.rules.proofs.Test.{case-of, case-found}
 use Rattle.rules.proofs.Every.{every, is-one}
 use Rattle.rules.proofs.ByKind.{by-kind}
@@ -25,10 +25,9 @@ use Rattle.rules.proofs.ClassTests.{one-is}
 use Rattle.rules.proofs.Classes.{no-block}
 use Rattle.rules.proofs.Pairs.{ok-words, name-words}
 use Rattle.rules.proofs.RowNames.{base-class, name-within, labeled-named}
-use Rattle.rules.proofs.LabelRows.{label-is, is-label}
-use Rattle.rules.proofs.SheetRows.{isRanked, ranked-is, is-ranked}
-use Rattle.tables.specs.Canon.{rowCanon, CanonTable, DeclaredTable}
-use Rattle.tables.proofs.Canons.{canonical, canon-rank, canon-above, canon-within}
+use Rattle.tables.specs.Canon.{rowCanon, isNumbered, declaredFor, CanonTable, DeclaredTable}
+use Rattle.tables.proofs.Canons.{canon-within}
+use Rattle.tables.proofs.Labelling.{label-class, label-numbered, numbered-label, is-numbered, numbered-is}
 
 -- ---- the kind of a Labeled row
 kind-labeled : (k d : ℕ) → detailAllowed k d ≡ true → eqb k 3 ≡ oneOf (labeled ∷ []) (classOf k d)
@@ -60,26 +59,18 @@ module _ (P : ℕ → Bool) (r : ℕ) where
 pub record Declaring (w p b t : List ℕ) (r : ℕ) : Type 0 where
   pub room : pairCount p < length t
   pub upto : r ≤ rowCount w
-  pub words : (c : ℕ) → 0 < c → getD t c 0 ≡ word (lowest (isRanked w p b 0 c) r)
+  pub words : (c : ℕ) → 0 < c → getD t c 0 ≡ word (lowest (isNumbered w p b c) r)
 
 module _ {w p b : List ℕ} (body : Body w p b) where
   -- a label with the canonical number c
   module _ (c r : ℕ) (row : r < rowCount w) where
-    is-canon : isRanked w p b 0 c r ≡ true → (kind w r ≡ 3) × (rowCanon w p b r ≡ c) × (0 < c)
+    is-canon : isNumbered w p b c r ≡ true → (kind w r ≡ 3) × (rowCanon w p b r ≡ c) × (0 < c)
     is-canon t =
-        let x = is-ranked w p b 0 c r t in
-        let l = is-label w p b 0 r (omega (arith, body .root-size)) (x .0) in
-        let z = labeled-named body r row (l .labels) in
-        let e = canon-rank p b (name w r) z (l .not-blank) in
-        (class-kind w r (body .details r row) (l .labels), e ∙ x .1, omega (arith, canon-above p b (name w r) z (l .not-blank), e, x .1))
+        let x = is-numbered w p b c r t in
+        (class-kind w r (body .details r row) (label-class body r row (x .0)), x .1, omega (arith, label-numbered body r row (x .0), x .1))
 
-    canon-is : kind w r ≡ 3 → rowCanon w p b r ≡ c → 0 < c → isRanked w p b 0 c r ≡ true
-    canon-is k e z =
-        let x = canonical p b (name w r) (omega arith) in
-        let l = kind-class w r (body .details r row) k in
-        ranked-is w p b 0 c r
-        (label-is w p b 0 r (record { row = (omega arith, omega (arith, body .root-size)); labels = l; not-blank = x .not-blank }))
-        (sym (x .ranked) ∙ e)
+    canon-is : kind w r ≡ 3 → rowCanon w p b r ≡ c → 0 < c → isNumbered w p b c r ≡ true
+    canon-is k e z = numbered-is w p b c r (numbered-label body r row (kind-class w r (body .details r row) k) (omega arith)) e
 
   -- the row's canonical number has a place in the tables
   pub canon-room : {canons : List ℕ} → CanonTable p b canons → (r : ℕ) → r < rowCount w → name w r < length canons
@@ -96,7 +87,7 @@ module _ {w p b : List ℕ} (body : Body w p b) where
   placed x {r} row d c e =
       let l = name-within body r row in
       let i : rowCanon w p b r ≡ c = sym (e ∙ x .at-name (name w r) l) in
-      let m = canon-within p b (name w r) l in
+      let m = canon-within p b (name w r) in
       let f = name-words p b (ok-words p b (body .names)) in
       record { number = i; place = omega (arith, d .room); small = omega (arith, f .pairs); row-small = omega (arith, body .most-rows) }
 
@@ -110,7 +101,7 @@ module _ {w p b : List ℕ} (body : Body w p b) where
     declaring-kept n = rw add-one (record {
       room = x .room;
       upto = omega arith;
-      words = λ c z. x .words c z ∙ sym (word-kept (isRanked w p b 0 c) r (λ t e.
+      words = λ c z. x .words c z ∙ sym (word-kept (isNumbered w p b c) r (λ t e.
           let y = is-canon c r row t in n (y .0) (omega (arith, y .1)) (rw (y .1) (x .words c z ∙ e))));
     })
 
@@ -132,14 +123,14 @@ module _ {w p b : List ℕ} (body : Body w p b) where
             upto = omega arith;
             words = λ d y. elim (ℕ-discrete d c) [
               | yes i ↦ rw i (getD-set-same t c (suc r) 0 (q .place)
-                  ∙ sym (word-first (isRanked w p b 0 c) r (canon-is c r row k (q .number) z) (sym (x .words c z) ∙ o)))
+                  ∙ sym (word-first (isNumbered w p b c) r (canon-is c r row k (q .number) z) (sym (x .words c z) ∙ o)))
               | no n ↦ getD-set-other t c d (suc r) 0 n ∙ x .words d y
-                  ∙ sym (word-kept (isRanked w p b 0 d) r (λ u _. n (sym (is-canon d r row u .1) ∙ q .number)))
+                  ∙ sym (word-kept (isNumbered w p b d) r (λ u _. n (sym (is-canon d r row u .1) ∙ q .number)))
             ];
           })
 
   pub declaring-end : (t : List ℕ) (r : ℕ) → Declaring w p b t r → rowCount w ≤ r → DeclaredTable w p b t
-  unfolding declaredAt
+  unfolding declaredFor
   declaring-end t r x h =
       let e : r ≡ end w 0 = omega (arith, x .upto, body .root-size) in
       record { room = x .room; at-canon = λ c z _. rw e at (x .words c z) }

@@ -1,3 +1,4 @@
 pub mod Canons
 pub mod Filling
+pub mod Labelling
 pub mod Declaring

@@ -1,6 +1,6 @@
 -- The invariant: no row below r is bad, and r is at most the count. The measure is what is left of the count.
 -- Assumes nothing.
-use mathlib.Core.Path.{_≡_, sym, _∙_}
+use mathlib.Core.Path.{_≡_, refl, sym, _∙_}
 use mathlib.Core.Bool.{false}
 use Prim.Native.Nat.{ℕ, _-_, _<_, _≤_}
 use native.Mathlib.Omega.{arith}
@@ -26,7 +26,7 @@ row-allowed-requires c κs = omega arith
 returns : tie.Need-returns Inv-loop μ-loop
 returns c =
     sym (found-lowest _ _ _ (c .before .before .loop-test .taken)
-    (not-false _ (sym (c .before .row-allowed .ensures) ∙ not-true _ (c .if1 .taken))) (c .before .before .before .loop .inv .1))
+    (not-false _ (sym (c .before .row-allowed .ensures _ refl) ∙ not-true _ (c .if1 .taken))) (c .before .before .before .loop .inv .1))
 
 add-r : tie.Need-add-r Inv-loop μ-loop
 add-r c = omega arith
@@ -36,7 +36,7 @@ loop-less c = omega arith
 
 loop-again : tie.Need-loop-again Inv-loop μ-loop
 loop-again c =
-    (omega arith, below-more _ _ (c .before .before .before .loop .inv .1) (not-true _ (sym (c .before .row-allowed .ensures) ∙ not-false _ (c .if1 .left))))
+    (omega arith, below-more _ _ (c .before .before .before .loop .inv .1) (not-true _ (sym (c .before .row-allowed .ensures _ refl) ∙ not-false _ (c .if1 .left))))
 
 returns-2 : tie.Need-returns-2 Inv-loop μ-loop
 returns-2 c = sym (none-lowest _ _ (λ k l. c .before .loop .inv .1 k (omega arith)))

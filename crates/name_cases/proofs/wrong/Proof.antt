@@ -1,18 +1,16 @@
--- Only the index has a bound, which the loop's test gives. The measure is what is left of the ranks.
+-- Only the index has a bound, which the loop's test gives. The measure is what is left of the numbers.
 -- Assumes nothing.
-use native.Mathlib.Omega.{arith}
-use lib.ListN.{length, length-set}
-use mathlib.Core.Path.{_≡_}
-use Prim.Native.Nat.{_/_, _-_}
+use Prim.Native.Nat.{_-_}
+use lib.ListN.{length}
 use borrow.Author.Needs.{needs}
 use Rattle.name_cases.proofs.wrong.Statement.{statement}
 use Rattle.name_cases.proofs.wrong.Tie as tie
 
 abbrev Inv-loop : tie.InvT-loop
-Inv-loop ranks count₀ due₀ i₀ count due i = Unit {0}
+Inv-loop names first step count₀ due₀ i₀ count due i = Unit {0}
 
 abbrev μ-loop : tie.MeasureT-loop
-μ-loop ranks count₀ due₀ i₀ count due i = length ranks - i
+μ-loop names first step count₀ due₀ i₀ count due i = length names - i
 
 loop-holds : tie.Need-loop-holds Inv-loop μ-loop
 loop-holds c = search needs
@@ -23,11 +21,11 @@ mul-if1 c = search needs
 shared-slice-read-if1 : tie.Need-shared-slice-read-if1 Inv-loop μ-loop
 shared-slice-read-if1 c = search needs
 
-wrapping-add-u32-requires : tie.Need-wrapping-add-u32-requires Inv-loop μ-loop
-wrapping-add-u32-requires c κs = search needs
+wrapping-add-u16-requires : tie.Need-wrapping-add-u16-requires Inv-loop μ-loop
+wrapping-add-u16-requires c κs = search needs
 
-wrapping-sub-u32-requires : tie.Need-wrapping-sub-u32-requires Inv-loop μ-loop
-wrapping-sub-u32-requires c κs = search needs
+wrapping-add-u16-requires-2 : tie.Need-wrapping-add-u16-requires-2 Inv-loop μ-loop
+wrapping-add-u16-requires-2 c κs = search needs
 
 add-i : tie.Need-add-i Inv-loop μ-loop
 add-i c = search needs
@@ -50,8 +48,8 @@ wrong-spec =
     loop-holds
     mul-if1
     shared-slice-read-if1
-    wrapping-add-u32-requires
-    wrapping-sub-u32-requires
+    wrapping-add-u16-requires
+    wrapping-add-u16-requires-2
     add-i
     loop-less
     loop-again

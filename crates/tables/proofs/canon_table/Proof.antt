@@ -1,5 +1,5 @@
 -- `tables::canon_table` meets its contract. The loop's invariant is `Filling`: the words below `n` are canonical numbers with `_` taken out, those from `n` on
--- still ranks. The measure is how many names are left.
+-- still the first name numbers. The measure is how many names are left.
 -- Assumes nothing.
 use mathlib.Core.Path.{_≡_, refl, sym, _∙_}
 use mathlib.Core.Logic.{⊎-elim}

@@ -5,7 +5,7 @@ use native.Mathlib.Omega.{arith}
 use borrow.Author.Needs.{needs}
 use borrow.Author.Tests.{not-false, eqb-true}
 use Rattle.body.proofs.Items.{plain-row}
-use Rattle.body.proofs.Passing.{never}
+use Rattle.body.proofs.RightRows.{never}
 use Rattle.body.proofs.plain.plain_item.Statement.{statement}
 use Rattle.body.proofs.plain.plain_item.Tie as tie
 

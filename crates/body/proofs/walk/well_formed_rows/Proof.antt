@@ -1,6 +1,6 @@
--- Row 0 is allowed, a Block of all rows and 1 deep, so that every other row is below it; and the walk says that the rows below it are right.
+-- Row 0 is allowed, a Block of all rows and 1 deep, so it is a list and every other row is below it; and the walk says that the rows below it are right.
 -- Assumes nothing.
-use mathlib.Core.Path.{_≡_, sym, _∙_, subst}
+use mathlib.Core.Path.{_≡_, refl, sym, _∙_, ap, subst}
 use mathlib.Core.Bool.{true, false}
 use mathlib.Core.List.{List, [], _∷_}
 use Prim.Native.Nat.{ℕ, _≤_, _<_}
@@ -11,13 +11,16 @@ use borrow.Author.Needs.{needs}
 use borrow.Author.Tests.{not-true, not-false, eqb-true}
 use Rattle.rules.specs.Rows.{rowCount, size}
 use Rattle.rules.specs.Class.{block, oneOf, base, class}
-use Rattle.rules.specs.Refusals.{Holding, holding, isBody, badRow}
+use Rattle.rules.specs.Refusals.{holding, isBody, badRow}
 use Rattle.rules.proofs.Test.{and-true}
+use Rattle.rules.proofs.Every.{is-one}
+use Rattle.rules.proofs.Classes.{root-block}
 use Rattle.rules.proofs.Facts.{good-row}
 use Rattle.shape.specs.DetailedTo.{DetailedTo}
-use Rattle.body.specs.Right.{Right, RightBelow, Reached}
+use Rattle.body.specs.Parts.{isList}
+use Rattle.body.specs.Right.{Right, RightBelow, Met}
 use Rattle.body.proofs.Deeper.{root-depth}
-use Rattle.body.proofs.Passing.{right-size, right-shape, never}
+use Rattle.body.proofs.RightRows.{right-size, right-shape, never}
 use Rattle.body.proofs.walk.well_formed_rows.Statement.{statement}
 use Rattle.body.proofs.walk.well_formed_rows.Tie as tie
 
@@ -26,23 +29,26 @@ root-details w p g k l = let z : 0 ≡ k = omega arith in good-row w p k (subst 
 
 -- row 0, once it is allowed and a Block of all rows
 module _ (w p : List ℕ) (some : 0 < rowCount w) (g : badRow w p 0 ≡ false) (b : isBody w ≡ true) where
-  root-size : size w 0 ≡ rowCount w
+  body-parts : (oneOf (block ∷ []) (base w 0) ≡ true) × (eqb (size w 0) (rowCount w) ≡ true)
   unfolding isBody
-  root-size = eqb-true (size w 0) (rowCount w) (and-true (oneOf (block ∷ []) (base w 0)) (eqb (size w 0) (rowCount w)) b .1)
+  body-parts = and-true (oneOf (block ∷ []) (base w 0)) (eqb (size w 0) (rowCount w)) b
 
-  root-reached : rowCount w ≤ 2000 → {r : ℕ} → r ≡ 0 → {h : Holding} → h ≡ holding (class w 0) → {d : ℕ} → d ≡ 1 → Reached w r h d
-  root-reached most z o q =
+  root-size : size w 0 ≡ rowCount w
+  root-size = eqb-true (size w 0) (rowCount w) (body-parts .1)
+
+  root-list : rowCount w ≤ 2000 → Met w 0 1 × DetailedTo w 0 × (isList (holding (class w 0)) ≡ true)
+  root-list most =
       let s = root-size in
-      rw z record {
+      let m : Met w 0 1 = record {
         row = some;
         most-rows = most;
         some-rows = omega arith;
         within = omega arith;
-        details = root-details w p g;
-        holds = o;
+        details = λ k l. absurd (omega arith);
         shallow = omega (arith, root-depth w);
         deepest = omega arith;
-      }
+      } in
+      (m, root-details w p g, ap isList (root-block w 0 (is-one (base w 0) block (body-parts .0)) refl))
 
   all-right : RightBelow w p 0 → (k : ℕ) → k < rowCount w → Right w p k
   all-right o k l =
@@ -60,7 +66,7 @@ module _ (w p : List ℕ) (some : 0 < rowCount w) (g : badRow w p 0 ≡ false) (
 
 -- ---- what the two tests say
 allowed : (c : tie.Else1) → badRow (c .before .before .before .before .args .rows .now) (c .before .before .before .before .args .pairs .now) 0 ≡ false
-allowed c = not-true _ (sym (c .before .row-allowed .ensures) ∙ not-false _ (c .if1 .left))
+allowed c = not-true _ (sym (c .before .row-allowed .ensures _ refl) ∙ not-false _ (c .if1 .left))
 
 a-body : (c : tie.Else2) → isBody (c .before .before .before .before .before .before .args .rows .now) ≡ true
 a-body c = sym (c .before .is-body .ensures) ∙ not-false _ (c .if2 .left)
@@ -77,34 +83,18 @@ is-body-requires c κs = let s = c .before .before .before .before in (s .pre .0
 returns-2 : tie.Need-returns-2
 returns-2 c = never
 
-parent-at-requires : tie.Need-parent-at-requires
-parent-at-requires c κs =
+list-fits-requires : tie.Need-list-fits-requires
+list-fits-requires c κs =
     let s = c .before .before .before .before .before .before in
-    (s .pre .0, root-details (s .args .rows .now) (s .args .pairs .now) (allowed (c .before .before)))
-
-rows-below-fit-requires : tie.Need-rows-below-fit-requires
-rows-below-fit-requires c κs =
-    let b = c .before in
-    let s = b .before .before .before .before .before .before in
-    let o = c .parent-at .ensures in
-    root-reached (s .args .rows .now) (s .args .pairs .now) (s .pre .0) (allowed (b .before .before)) (a-body b) (s .pre .1) (o .0) (o .1) (o .2)
+    root-list (s .args .rows .now) (s .args .pairs .now) (s .pre .0) (allowed (c .before .before)) (a-body c) (s .pre .1)
 
 returns-3 : tie.Need-returns-3
 returns-3 c y =
-    let b = c .before .before in
+    let b = c .before in
     let s = b .before .before .before .before .before .before in
-    let w = s .args .rows .now in
-    let p = s .args .pairs .now in
-    all-right w p (s .pre .0) (allowed (b .before .before)) (a-body b) (subst (RightBelow w p) (c .before .parent-at .ensures .0) (c .rows-below-fit .ensures y))
+    all-right (s .args .rows .now) (s .args .pairs .now) (s .pre .0) (allowed (b .before .before)) (a-body b) (c .list-fits .ensures y _ refl)
 
 pub well-formed-rows-spec : {M : Type 1} → statement M
 well-formed-rows-spec =
     tie.close
-    (tie.spec
-    row-allowed-requires
-    returns
-    is-body-requires
-    returns-2
-    parent-at-requires
-    rows-below-fit-requires
-    returns-3)
+    (tie.spec row-allowed-requires returns is-body-requires returns-2 list-fits-requires returns-3)

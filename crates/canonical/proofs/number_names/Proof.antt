@@ -1,0 +1,152 @@
+-- `number_names` meets its contract. The loop's invariant is `Numbering`: the tables stand as they do once the first `n` names are numbered.
+-- The measure is what is left of the names.
+-- Assumes nothing.
+use Prim.Native.Nat.{suc, _-_}
+use native.Mathlib.Omega.{arith}
+use borrow.Author.Needs.{needs}
+use Rattle.canonical.proofs.Firsts.{first-within}
+use Rattle.canonical.proofs.Numbering.{Numbering, numbering-start, numbering-next, numbering-end, number-small, key-hash, key-slot}
+use Rattle.canonical.proofs.number_names.Statement.{statement}
+use Rattle.canonical.proofs.number_names.Tie as tie
+
+abbrev Inv-loop : tie.InvT-loop
+Inv-loop pairs bytes heads₀ nexts₀ keys₀ firsts₀ count n₀ heads nexts keys firsts n = Numbering pairs bytes heads₀ nexts₀ keys₀ firsts₀ heads nexts keys firsts n
+
+abbrev μ-loop : tie.MeasureT-loop
+μ-loop pairs bytes heads₀ nexts₀ keys₀ firsts₀ count n₀ heads nexts keys firsts n = count - n
+
+loop-holds : tie.Need-loop-holds Inv-loop μ-loop
+loop-holds c =
+    let s = c .before .before .before .before .before .before in
+    numbering-start _ _ _ _ _ _ (s .pre .0 .0) (s .pre .0 .1) (s .pre .1)
+
+add-name : tie.Need-add-name Inv-loop μ-loop
+add-name c = search needs
+
+name-part-requires : tie.Need-name-part-requires Inv-loop μ-loop
+name-part-requires c κs = search needs
+
+hash-requires : tie.Need-hash-requires Inv-loop μ-loop
+hash-requires c κs = search needs
+
+wide-word-requires : tie.Need-wide-word-requires Inv-loop μ-loop
+wide-word-requires c κs = search needs
+
+slot-requires : tie.Need-slot-requires Inv-loop μ-loop
+slot-requires c κs = search needs
+
+first-same-requires : tie.Need-first-same-requires Inv-loop μ-loop
+first-same-requires c κs =
+    let k = c .before .before .before .before in
+    let w = k .before .before in
+    let l = w .before .before in
+    let r = l .before .loop .inv in
+    let hashed = key-hash _ _ _ _ _ (w .before .name-part .ensures) (w .hash .ensures) in
+    let own = key-slot _ _ _ _ (k .before .wide-word .ensures) (k .slot .ensures .0) in
+    ((r .room, l .loop-test .taken), ((r .heads, r .linked), (hashed, own, k .slot .ensures .1)))
+
+cast-firsts : tie.Need-cast-firsts Inv-loop μ-loop
+cast-firsts c =
+    let s = c .before .before .before .before .before .before .before .before .before .before .before .before .before .before .before .before .before in
+    let n = c .before .before .before .before .before .before .before .before .before .before .loop .n in
+    omega (arith, c .first-same .ensures, first-within (s .args .pairs .now) (s .args .bytes .now) (suc n), number-small _ _ (s .pre .0 .0))
+
+mul-firsts : tie.Need-mul-firsts Inv-loop μ-loop
+mul-firsts c = search needs
+
+slice-write-firsts : tie.Need-slice-write-firsts Inv-loop μ-loop
+slice-write-firsts c = search needs
+
+mul-keys : tie.Need-mul-keys Inv-loop μ-loop
+mul-keys c = search needs
+
+slice-write-keys : tie.Need-slice-write-keys Inv-loop μ-loop
+slice-write-keys c = search needs
+
+mul-nexts : tie.Need-mul-nexts Inv-loop μ-loop
+mul-nexts c = search needs
+
+slice-read-nexts : tie.Need-slice-read-nexts Inv-loop μ-loop
+slice-read-nexts c = search needs
+
+mul-nexts-2 : tie.Need-mul-nexts-2 Inv-loop μ-loop
+mul-nexts-2 c = search needs
+
+slice-write-nexts : tie.Need-slice-write-nexts Inv-loop μ-loop
+slice-write-nexts c = search needs
+
+cast-heads : tie.Need-cast-heads Inv-loop μ-loop
+cast-heads c =
+    let l = c .before .before .before .before .before .before .before .before .before .before in
+    let s = l .before .before .before .before .before .before .before .before in
+    omega (arith, l .loop-test .taken, number-small _ _ (s .pre .0 .0))
+
+mul-heads : tie.Need-mul-heads Inv-loop μ-loop
+mul-heads c = search needs
+
+slice-write-heads : tie.Need-slice-write-heads Inv-loop μ-loop
+slice-write-heads c = search needs
+
+add-n : tie.Need-add-n Inv-loop μ-loop
+add-n c = search needs
+
+loop-less : tie.Need-loop-less Inv-loop μ-loop
+loop-less c = search needs
+
+loop-again : tie.Need-loop-again Inv-loop μ-loop
+loop-again c =
+    let k = c .before .before .before .before .before .before in
+    let w = k .before .before in
+    let l = w .before .before in
+    numbering-next _ _ _ _ _ _ _ _ _ _ _ (l .before .loop .inv) (l .loop-test .taken) _ _ _
+    (key-hash _ _ _ _ _ (w .before .name-part .ensures) (w .hash .ensures))
+    (key-slot _ _ _ _ (k .before .wide-word .ensures) (k .slot .ensures .0)) (k .slot .ensures .1) (c .before .first-same .ensures)
+
+same-length : tie.Need-same-length Inv-loop μ-loop
+same-length c = search needs
+
+same-length-2 : tie.Need-same-length-2 Inv-loop μ-loop
+same-length-2 c = search needs
+
+same-length-3 : tie.Need-same-length-3 Inv-loop μ-loop
+same-length-3 c = search needs
+
+same-length-4 : tie.Need-same-length-4 Inv-loop μ-loop
+same-length-4 c = search needs
+
+returns : tie.Need-returns Inv-loop μ-loop
+returns c = numbering-end _ _ _ _ _ _ _ _ _ _ _ (c .before .loop .inv) (omega (arith, c .loop-test .left))
+
+pub number-names-spec : {M : Type 1} → statement M
+number-names-spec =
+    tie.close
+    (tie.spec
+    Inv-loop
+    μ-loop
+    loop-holds
+    add-name
+    name-part-requires
+    hash-requires
+    wide-word-requires
+    slot-requires
+    first-same-requires
+    cast-firsts
+    mul-firsts
+    slice-write-firsts
+    mul-keys
+    slice-write-keys
+    mul-nexts
+    slice-read-nexts
+    mul-nexts-2
+    slice-write-nexts
+    cast-heads
+    mul-heads
+    slice-write-heads
+    add-n
+    loop-less
+    loop-again
+    same-length
+    same-length-2
+    same-length-3
+    same-length-4
+    returns)

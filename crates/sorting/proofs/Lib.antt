@@ -1,0 +1,3 @@
+pub mod Elements
+pub mod Halves
+pub mod Merging
