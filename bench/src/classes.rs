@@ -6,6 +6,7 @@ mod fill;
 mod gotos;
 mod labels;
 mod names;
+mod unused;
 
 use oracle::bodies::{people, Rng};
 use oracle::Body;
@@ -15,12 +16,14 @@ pub struct Class {
     pub make: fn(&mut Rng, usize) -> Body,
 }
 
-pub const CLASSES: [Class; 5] = [
+pub const CLASSES: [Class; 7] = [
     Class { name: "as people write them", make: people },
     Class { name: "label-heavy", make: labels::make },
     Class { name: "goto-heavy", make: gotos::make },
     Class { name: "deep", make: deep::make },
     Class { name: "name-heavy", make: names::make },
+    Class { name: "unused labels", make: unused::make },
+    Class { name: "names of one hash", make: names::of_one_hash },
 ];
 
 pub const SIZES: [usize; 4] = [10, 100, 1_000, 2_000];

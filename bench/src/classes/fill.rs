@@ -38,3 +38,13 @@ pub fn long_names(rng: &mut Rng, count: usize) -> Vec<String> {
     shuffle(rng, &mut names);
     names
 }
+
+/// Names of 16 bytes that have the same hash (crates/canonical), in any order:
+/// 37 more in one byte is one more in the byte after it.
+pub fn names_of_one_hash(rng: &mut Rng, count: usize) -> Vec<String> {
+    let pair = |digit: usize| [b'0' + 37 * digit as u8, b'z' - digit as u8].map(char::from);
+    let name = |i: usize| (0..8).flat_map(|at| pair(i / 3_usize.pow(at) % 3)).collect();
+    let mut names: Vec<String> = (0..count).map(name).collect();
+    shuffle(rng, &mut names);
+    names
+}
