@@ -11,7 +11,7 @@ ghost use Prim.Native.Nat.{ℕ, _≤_, _<_};
 ghost use Rattle.rules.specs.Rows.{rowCount, end as endOf};
 ghost use Rattle.rules.specs.Class.{detailAllowed, classOf, class};
 ghost use Rattle.rules.specs.Names.{pairCount};
-ghost use Rattle.rules.specs.Refusals.{Holding as Holds, branches, holding as holdingOf, mayHold};
+ghost use Rattle.rules.specs.Refusals.{Holding as Holds, holding as holdingOf, mayHold};
 ghost use Rattle.shape.specs.DetailedTo.{DetailedTo};
 ghost use Rattle.shape.specs.Held.{held};
 ghost use Rattle.body.specs.Right.{Right, RightBelow, Met};

@@ -2,13 +2,11 @@
 use crate::sheet;
 use rows::RowNumber;
 ghost use mathlib.Core.Path.{_≡_};
-ghost use mathlib.Core.Bool.{Bool, true};
+ghost use mathlib.Core.Bool.{true};
 ghost use mathlib.Core.List.{[], _∷_};
-ghost use Prim.Native.Nat.{ℕ, suc, _≤_, _<_};
-ghost use lib.ListN.{length, getD};
+ghost use Prim.Native.Nat.{suc, _<_};
 ghost use Rattle.rules.specs.Rows.{rowCount, name};
 ghost use Rattle.rules.specs.Class.{break, continue, goto, oneOf, isBranch, class};
-ghost use Rattle.rules.specs.Scope.{isBlock};
 ghost use Rattle.rules.specs.Labels.{earlier, target, validTarget, word};
 ghost use Rattle.tables.specs.Canon.{Tables};
 ghost use Rattle.branches.specs.Walk.{BlockLinks, Walking, Walked};

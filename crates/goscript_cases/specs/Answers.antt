@@ -2,7 +2,7 @@
 -- Assumes nothing.
 use mathlib.Core.Bool.{true, false}
 use mathlib.Core.List.{List, [], _∷_}
-use Rattle.goscript_cases.specs.Case.{Case, Answer, both, each}
+use Rattle.goscript_cases.specs.Case.{Case, both, each}
 
 abbrev pub cases : List Case
 cases =

@@ -1,9 +1,9 @@
 -- On a well-formed body the placing and verdict calls refuse nothing, so that the three answers stand together where the label call answers.
 -- Assumes nothing.
-use mathlib.Core.Path.{_≡_, refl, sym, _∙_, ap}
+use mathlib.Core.Path.{_≡_, sym, _∙_, ap}
 use mathlib.Core.Bool.{Bool}
 use mathlib.Core.List.{List}
-use mathlib.Core.Option.{Option, none, some}
+use mathlib.Core.Option.{Option, some}
 use Prim.Native.Nat.{ℕ}
 use Rattle.rules.specs.Refusals.{refusal, WellFormed}
 use Rattle.rules.specs.Placing.{placing}

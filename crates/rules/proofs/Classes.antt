@@ -8,7 +8,7 @@ use native.Mathlib.Omega.{arith}
 use lib.Dec.{eqb, ltb}
 use borrow.Author.Tests.{eq-eqb, ne-eqb, ltb-true}
 use Rattle.rules.specs.Rows.{kind, detail}
-use Rattle.rules.specs.Class.{Class, block, caseBlock, commBlock, select, code, oneOf, isSwitch, detailAllowed, classOf, base, following, class}
+use Rattle.rules.specs.Class.{Class, block, caseBlock, commBlock, select, oneOf, isSwitch, detailAllowed, classOf, base, following, class}
 use Rattle.rules.specs.Refusals.{nothing, body, branches, statements, cases, comms, holding}
 use Rattle.rules.proofs.Every.{is-one}
 use Rattle.rules.proofs.ByKind.{among, NoneOf, none-among, switches, kind-block, kind-switch, kind-select, first-detail, holders, leaf-kind}

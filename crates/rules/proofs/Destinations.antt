@@ -2,44 +2,26 @@
 -- the target of a labelled break has the break inside a Block of it, so its statement is around the break, carries the label, and is what the break refers to.
 -- Assumes nothing.
 use mathlib.Core.Path.{_≡_, refl}
-use mathlib.Core.Bool.{Bool, true, false, _&&_, not}
+use mathlib.Core.Bool.{Bool, true, false, _&&_}
 use mathlib.Core.List.{List, [], _∷_}
-use mathlib.Core.Option.{Option, none, some}
-use Prim.Native.Nat.{ℕ, zero, suc, _≤_, _<_}
+use mathlib.Core.Option.{none, some}
+use Prim.Native.Nat.{ℕ, suc, _≤_, _<_}
 use native.Mathlib.Omega.{arith}
-use lib.Dec.{ltb, leb, eqb}
-use borrow.Author.Tests.{ltb-true, leb-true, le-leb, eqb-true, eqb-false, eq-eqb, not-false}
+use lib.Dec.{ltb, eqb}
+use borrow.Author.Tests.{ltb-true, le-leb, eqb-true, eqb-false, eq-eqb, not-false}
 use Rattle.rules.specs.Scan.{lowest, highest}
 use Rattle.rules.specs.Rows.{rowCount, name, end, Child, InBody}
-use Rattle.rules.specs.Class.{
-  Class,
-  labeled,
-  break,
-  continue,
-  goto,
-  fallthrough,
-  caseBlock,
-  oneOf,
-  isBranch,
-  isBreakable,
-  isLoop,
-  isCase,
-  following,
-  base,
-  class,
-}
-use Rattle.rules.specs.Names.{pairCount, isBlank}
-use Rattle.rules.specs.Refusals.{nameAllowed}
+use Rattle.rules.specs.Class.{Class, labeled, break, continue, goto, fallthrough, caseBlock, oneOf, isBranch, isBreakable, isLoop, isCase, class}
 use Rattle.rules.specs.Body.{Body}
 use Rattle.rules.specs.Scope.{isBlock, isList, around, innermost, listOf, nextCase, onlyEmpty}
-use Rattle.rules.specs.Labels.{isSome, isClass, sameNames, needs, isLabel, labels, declared, lastInRun, inBlockOf, target}
+use Rattle.rules.specs.Labels.{isSome, needs, labels, lastInRun, inBlockOf, target}
 use Rattle.rules.specs.Placing.{endsCase, wellPlaced, badlyPlaced, placing}
 use Rattle.rules.specs.Verdict.{labelOn, refersTo}
 use Rattle.rules.specs.Runner.{breakTo, continueTo, gotoTo}
-use Rattle.rules.specs.Law.{Label, LawfulTarget, LawfulLabel, Lawful, lawful-break, lawful-continue, lawful-goto, AllLawful}
+use Rattle.rules.specs.Law.{LawfulTarget, LawfulLabel, Lawful, lawful-break, lawful-continue, lawful-goto, AllLawful}
 use Rattle.rules.proofs.Test.{case-of, case-found, clash, and-true}
-use Rattle.rules.proofs.Scan.{lowest-none, lowest-found, highest-found, highest-none}
-use Rattle.rules.proofs.Every.{every, implies, implied, of-classes, is-one}
+use Rattle.rules.proofs.Scan.{lowest-none, highest-found, highest-none}
+use Rattle.rules.proofs.Every.{every, is-one}
 use Rattle.rules.proofs.Nesting.{item-next}
 use Rattle.rules.proofs.ClassRules.{class-rule}
 use Rattle.rules.proofs.Around.{around-true, true-around, Innermost, innermost-found, next-case}

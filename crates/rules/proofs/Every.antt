@@ -2,12 +2,11 @@
 -- Assumes nothing.
 use mathlib.Core.Path.{_≡_, refl, sym, _∙_, ap}
 use mathlib.Core.Bool.{Bool, true, false, not}
-use mathlib.Core.List.{List, [], _∷_}
+use mathlib.Core.List.{[], _∷_}
 use mathlib.Core.Logic.{⊎-elim}
-use mathlib.Core.Option.{Option, none, some}
+use mathlib.Core.Option.{none, some}
 use Prim.Native.Nat.{ℕ, _<_}
-use native.Mathlib.Omega.{arith}
-use lib.Dec.{T, eqb, lit<}
+use lib.Dec.{eqb, lit<}
 use lib.ListN.{getD}
 use borrow.Author.Tests.{eqb-true, not-false}
 use Rattle.rules.specs.Scan.{lowest}

@@ -1,12 +1,12 @@
 -- A well-formed body has the facts of `Body`: each cause that does not apply gives its part, and nesting and the parents follow from the children.
 -- Assumes nothing.
-use mathlib.Core.Path.{_≡_, refl, sym, _∙_}
-use mathlib.Core.Bool.{Bool, true, false, _&&_, _||_, not}
+use mathlib.Core.Path.{_≡_}
+use mathlib.Core.Bool.{true, false, _&&_, _||_, not}
 use mathlib.Core.List.{List}
-use mathlib.Core.Option.{Option, none, some}
-use Prim.Native.Nat.{ℕ, zero, suc, _+_, _*_, _/_, _%_, _≤_, _<_}
+use mathlib.Core.Option.{none, some}
+use Prim.Native.Nat.{ℕ, _*_, _%_, _≤_, _<_}
 use native.Mathlib.Omega.{arith}
-use lib.Dec.{ltb, leb, eqb}
+use lib.Dec.{ltb, eqb}
 use lib.ListN.{length}
 use borrow.Author.Tests.{eqb-true, eqb-false, ltb-true, ltb-false, not-false}
 use Rattle.rules.specs.Scan.{lowest}
@@ -18,7 +18,7 @@ use Rattle.rules.specs.Body.{Sized, Detailed, Body}
 use Rattle.rules.proofs.Test.{and-true, or-false}
 use Rattle.rules.proofs.Scan.{lowest-none}
 use Rattle.rules.proofs.Pairs.{names-ok}
-use Rattle.rules.proofs.Causes.{NoCause, no-cause}
+use Rattle.rules.proofs.Causes.{no-cause}
 use Rattle.rules.proofs.Nesting as nesting
 use Rattle.rules.proofs.Shape as shape
 

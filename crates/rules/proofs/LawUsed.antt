@@ -1,6 +1,6 @@
 -- The handbook's law applied to bodies, so that neither half holds of nothing: a loop with a labelled break out of a switch, a goto forward and one back, fallthrough, select.
 -- Assumes nothing.
-use mathlib.Core.Path.{_≡_, refl}
+use mathlib.Core.Path.{refl}
 use mathlib.Core.List.{List}
 use Prim.Native.Nat.{ℕ}
 use Rattle.rules.specs.Runner.{State, Route}

@@ -1,18 +1,16 @@
 -- The rows as nested intervals: where every child ends within its parent, whatever begins in a row ends in it, and the child relation, stepped through by size, is the parent relation, sought upward.
 -- Assumes nothing.
-use mathlib.Core.Path.{_≡_, refl, sym}
-use mathlib.Core.Bool.{Bool, true, false}
-use mathlib.Core.Option.{Option, none, some}
+use mathlib.Core.Path.{_≡_}
+use mathlib.Core.Option.{some}
 use mathlib.Core.List.{List}
 use Prim.Native.Nat.{ℕ, zero, suc, _+_, _≤_, _<_}
 use native.Mathlib.Omega.{arith}
 use native.Mathlib.Decide.{decLt, ℕ-discrete}
 use lib.Dec.{ltb}
 use borrow.Author.Tests.{lt-ltb, le-ltb, ltb-true, ltb-false}
-use Rattle.rules.specs.Scan.{highest}
 use Rattle.rules.specs.Rows.{rowCount, size, end, parent, Item, here, later, Child}
 use Rattle.rules.specs.Body.{Sized}
-use Rattle.rules.proofs.Test.{case-found, clash}
+use Rattle.rules.proofs.Test.{case-found}
 use Rattle.rules.proofs.Scan.{found-highest, highest-found, highest-last, highest-none}
 
 -- ---- items, stepped through by size

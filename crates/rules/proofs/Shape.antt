@@ -1,55 +1,18 @@
 -- What a row without a fault of shape has below it: each child fits, and there are as many as its class asks for.
 -- A child's class is its own words' but for the Block of a switch or Select. That is the one right after its switch: any other row that follows such a row would leave it without its Block.
 -- Assumes nothing.
-use mathlib.Core.Path.{_≡_, refl, sym, _∙_, ap}
+use mathlib.Core.Path.{_≡_, refl, sym, _∙_}
 use mathlib.Core.Bool.{Bool, true, false, _&&_, _||_, not}
 use mathlib.Core.Logic.{_≢_}
 use mathlib.Core.List.{List, [], _∷_}
-use Prim.Native.Nat.{ℕ, zero, suc, _+_, _≤_, _<_}
+use Prim.Native.Nat.{ℕ, zero, suc, _≤_, _<_}
 use native.Mathlib.Omega.{arith}
 use native.Mathlib.Decide.{ℕ-discrete, decLt}
-use lib.Dec.{ltb, leb, eqb}
-use borrow.Author.Tests.{lt-ltb, le-ltb, ltb-false, leb-true, eqb-true, not-false}
+use lib.Dec.{leb, eqb}
+use borrow.Author.Tests.{lt-ltb, le-ltb, leb-true, eqb-true, not-false}
 use Rattle.rules.specs.Scan.{lowest}
 use Rattle.rules.specs.Rows.{rowCount, kind, detail, size, end, Item, here, later, Child}
-use Rattle.rules.specs.Class.{
-  Class,
-  plain,
-  declaration,
-  empty,
-  labeled,
-  stop,
-  break,
-  continue,
-  goto,
-  fallthrough,
-  block,
-  caseBlock,
-  commBlock,
-  if,
-  ifElse,
-  case,
-  defaultCase,
-  comm,
-  defaultComm,
-  switch,
-  typeSwitch,
-  select,
-  for,
-  forCond,
-  code,
-  oneOf,
-  isSwitch,
-  isStatement,
-  isCase,
-  isComm,
-  classes,
-  detailAllowed,
-  classOf,
-  base,
-  following,
-  class,
-}
+use Rattle.rules.specs.Class.{Class, block, caseBlock, commBlock, select, code, oneOf, isSwitch, detailAllowed, classOf, base, following, class}
 use Rattle.rules.specs.Refusals.{Holding, nothing, statement, body, branches, statements, cases, comms, holding, mayHold, atLeast, childrenFit, isBody, badShape}
 use Rattle.rules.specs.Body.{Sized, Detailed, fits, OneChild, TwoChildren}
 use Rattle.rules.proofs.Test.{case-of, clash, and-true}

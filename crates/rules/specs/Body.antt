@@ -1,16 +1,15 @@
 -- What well-formed gives, as facts about rows and pairs of rows. proofs/Facts.antt derives them from the computed test.
 -- Assumes nothing.
 use mathlib.Core.Path.{_≡_}
-use mathlib.Core.Bool.{Bool, true, false, _||_}
+use mathlib.Core.Bool.{Bool, true, false}
 use mathlib.Core.List.{List, [], _∷_}
 use mathlib.Core.Option.{some}
-use Prim.Native.Nat.{ℕ, zero, suc, _+_, _*_, _≤_, _<_}
-use lib.Dec.{T}
+use Prim.Native.Nat.{ℕ, suc, _*_, _≤_, _<_}
 use lib.ListN.{length}
 use Rattle.rules.specs.Rows.{rowCount, kind, detail, position, name, size, end, parent, depth, Child}
 use Rattle.rules.specs.Class.{Class, block, if, ifElse, oneOf, isStatement, isCase, isComm, following, detailAllowed, base, class}
 use Rattle.rules.specs.Names.{pairCount, namesOk}
-use Rattle.rules.specs.Refusals.{nameAllowed, Holding, nothing, statement, body, branches, statements, cases, comms, holding}
+use Rattle.rules.specs.Refusals.{nameAllowed, nothing, statement, body, branches, statements, cases, comms, holding}
 
 -- no size is 0 or past the last row
 pub record Sized (w : List ℕ) : Type 0 where

@@ -1,6 +1,6 @@
 -- What a row is, decoded from its kind and detail by one table, which is also document 01's table of the allowed details.
 -- Assumes nothing.
-use mathlib.Core.Bool.{Bool, true, false, _&&_, _||_, not}
+use mathlib.Core.Bool.{Bool, true, false, _||_, not}
 use mathlib.Core.List.{List, [], _∷_}
 use Prim.Native.Nat.{ℕ, zero, suc}
 use lib.Dec.{ltb, eqb}

@@ -1,10 +1,10 @@
 -- The handbook's law (demand 3), as two statements about every well-formed body. proofs/SheetLaw.antt and proofs/RouteLaw.antt prove them.
 -- Assumes nothing.
 use mathlib.Core.Path.{_≡_}
-use mathlib.Core.Bool.{Bool, true, false}
+use mathlib.Core.Bool.{true, false}
 use mathlib.Core.Logic.{_⊎_, _≢_, _↔_}
 use mathlib.Core.List.{List, [], _∷_}
-use mathlib.Core.Option.{Option, none, some}
+use mathlib.Core.Option.{none, some}
 use Prim.Native.Nat.{ℕ, suc, _<_}
 use Rattle.rules.specs.Rows.{name, InBody}
 use Rattle.rules.specs.Class.{labeled, break, continue, goto, declaration, isBranch, class}

@@ -1,11 +1,11 @@
 -- Document 01, "Runner": states, the choices open at a state, one step, routes.
 -- Assumes nothing.
 use mathlib.Core.Path.{_≡_}
-use mathlib.Core.Bool.{Bool, true, false, _&&_, _||_, not}
+use mathlib.Core.Bool.{true, false, _&&_}
 use mathlib.Core.List.{List, [], _∷_}
 use mathlib.Core.Option.{Option, none, some}
-use Prim.Native.Nat.{ℕ, zero, suc, _+_, _<_}
-use lib.Dec.{ltb, leb, eqb}
+use Prim.Native.Nat.{ℕ, zero, suc, _<_}
+use lib.Dec.{ltb, eqb}
 use Rattle.rules.specs.Scan.{highest}
 use Rattle.rules.specs.Rows.{name, size, end}
 use Rattle.rules.specs.Class.{

@@ -4,7 +4,7 @@
 use mathlib.Core.Bool.{Bool, true, false, _&&_, _||_, not}
 use mathlib.Core.List.{List, [], _∷_}
 use mathlib.Core.Option.{Option, none, some}
-use Prim.Native.Nat.{ℕ, zero, suc}
+use Prim.Native.Nat.{ℕ}
 use lib.Dec.{ltb, leb}
 use Rattle.rules.specs.Scan.{lowest, highest}
 use Rattle.rules.specs.Rows.{end}

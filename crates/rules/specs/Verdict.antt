@@ -2,40 +2,11 @@
 -- Assumes nothing.
 use mathlib.Core.Bool.{Bool, true, false, _&&_, _||_, not}
 use mathlib.Core.List.{List, [], _∷_}
-use mathlib.Core.Option.{Option, none, some}
 use Prim.Native.Nat.{ℕ, zero, suc, _+_}
 use lib.Dec.{ltb, leb, eqb}
 use Rattle.rules.specs.Scan.{lowest}
 use Rattle.rules.specs.Rows.{name, size, end}
-use Rattle.rules.specs.Class.{
-  Class,
-  plain,
-  declaration,
-  empty,
-  labeled,
-  stop,
-  break,
-  continue,
-  goto,
-  fallthrough,
-  block,
-  caseBlock,
-  commBlock,
-  if,
-  ifElse,
-  case,
-  defaultCase,
-  comm,
-  defaultComm,
-  switch,
-  typeSwitch,
-  select,
-  for,
-  forCond,
-  oneOf,
-  isBreakable,
-  class,
-}
+use Rattle.rules.specs.Class.{plain, declaration, empty, labeled, stop, break, continue, goto, fallthrough, block, caseBlock, commBlock, if, ifElse, case, defaultCase, comm, defaultComm, switch, typeSwitch, select, for, forCond, oneOf, isBreakable, class}
 use Rattle.rules.specs.Scope.{around, innermost, onlyEmpty}
 use Rattle.rules.specs.Labels.{isSome, is, isClass, sameNames}
 

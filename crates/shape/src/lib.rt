@@ -2,7 +2,7 @@
 use names::Found;
 use rows::RowNumber;
 ghost use mathlib.Core.Path.{_≡_};
-ghost use mathlib.Core.Bool.{Bool, true, not};
+ghost use mathlib.Core.Bool.{true, not};
 ghost use Prim.Native.Nat.{ℕ, suc, _<_};
 ghost use Rattle.rules.specs.Scan.{lowest};
 ghost use Rattle.rules.specs.Rows.{rowCount, size, end};

@@ -24,7 +24,7 @@ use Rattle.rules.proofs.ByKind.{by-kind}
 use Rattle.rules.proofs.ClassTests.{one-is}
 use Rattle.rules.proofs.Classes.{no-block}
 use Rattle.rules.proofs.Pairs.{ok-words, name-words}
-use Rattle.rules.proofs.RowNames.{base-class, name-within, labeled-named}
+use Rattle.rules.proofs.RowNames.{base-class, name-within}
 use Rattle.tables.specs.Canon.{rowCanon, isNumbered, declaredFor, CanonTable, DeclaredTable}
 use Rattle.tables.proofs.Canons.{canon-within}
 use Rattle.tables.proofs.Labelling.{label-class, label-numbered, numbered-label, is-numbered, numbered-is}

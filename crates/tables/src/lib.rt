@@ -4,7 +4,7 @@ use names::NameNumber;
 use rows::RowNumber;
 ghost use mathlib.Core.Path.{_≡_};
 ghost use mathlib.Core.Bool.{true};
-ghost use Prim.Native.Nat.{ℕ, _≤_, _<_};
+ghost use Prim.Native.Nat.{ℕ, _<_};
 ghost use lib.ListN.{length, getD};
 ghost use Rattle.rules.specs.Rows.{rowCount, name};
 ghost use Rattle.rules.specs.Names.{pairCount, namesOk, isBlank};

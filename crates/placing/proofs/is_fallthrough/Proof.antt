@@ -1,6 +1,6 @@
 -- Each test of the code is one part of `Falls`.
 -- Assumes nothing.
-use mathlib.Core.Path.{sym, _∙_}
+use mathlib.Core.Path.{_∙_}
 use borrow.Author.Needs.{needs}
 use borrow.Author.Tests.{eqb-false}
 use Rattle.placing.proofs.is_fallthrough.Statement.{statement}

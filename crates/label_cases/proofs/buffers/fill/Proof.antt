@@ -1,6 +1,5 @@
 -- The words keep their length, so the index stays inside. The measure is what is left of them.
 -- Assumes nothing.
-use native.Mathlib.Omega.{arith}
 use mathlib.Core.Path.{_≡_}
 use Prim.Native.Nat.{_-_}
 use lib.ListN.{length}

@@ -1,6 +1,5 @@
 -- Pairs and bytes keep their lengths. The measure is what is left of the 500.
 -- Assumes nothing.
-use native.Mathlib.Omega.{arith}
 use mathlib.Core.Path.{_≡_}
 use Prim.Native.Nat.{_≤_, _-_}
 use lib.ListN.{length}

@@ -1,6 +1,5 @@
 -- The words keep their length. The measure of each loop is what is left of its rows.
 -- Assumes nothing.
-use native.Mathlib.Omega.{arith}
 use mathlib.Core.Path.{_≡_}
 use Prim.Native.Nat.{_≤_, _-_}
 use lib.ListN.{length}

@@ -1,6 +1,5 @@
 -- The words keep their length. The measure is what is left of the rows.
 -- Assumes nothing.
-use native.Mathlib.Omega.{arith}
 use mathlib.Core.Path.{_≡_}
 use Prim.Native.Nat.{_≤_, _-_}
 use lib.ListN.{length}

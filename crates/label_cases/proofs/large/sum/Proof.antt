@@ -2,7 +2,6 @@
 -- Assumes nothing.
 use Prim.Native.Nat.{_≤_, _-_}
 use lib.ListN.{length}
-use native.Mathlib.Omega.{arith}
 use borrow.Author.Needs.{needs}
 use Rattle.label_cases.proofs.large.sum.Statement.{statement}
 use Rattle.label_cases.proofs.large.sum.Tie as tie

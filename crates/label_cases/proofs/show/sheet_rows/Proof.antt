@@ -1,8 +1,6 @@
 -- The measure is what is left of the rows.
 -- Assumes nothing.
-use mathlib.Core.Path.{_≡_}
 use Prim.Native.Nat.{_≤_, _-_}
-use native.Mathlib.Omega.{arith}
 use borrow.Author.Needs.{needs}
 use Rattle.label_cases.proofs.show.sheet_rows.Statement.{statement}
 use Rattle.label_cases.proofs.show.sheet_rows.Tie as tie

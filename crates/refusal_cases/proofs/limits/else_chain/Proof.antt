@@ -1,8 +1,7 @@
 -- The words keep their length, which bounds the row numbers. The measure is the number of Ifs left.
 -- Assumes nothing.
-use native.Mathlib.Omega.{arith}
-use lib.ListN.{length, length-set}
-use mathlib.Core.Path.{_≡_, refl, _∙_}
+use lib.ListN.{length}
+use mathlib.Core.Path.{_≡_}
 use Prim.Native.Nat.{_≤_, _/_, _-_}
 use borrow.Author.Needs.{needs}
 use Rattle.refusal_cases.proofs.limits.else_chain.Statement.{statement}

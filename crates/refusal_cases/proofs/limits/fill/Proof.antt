@@ -1,9 +1,8 @@
 -- The words keep their length. The measure is the row number, which counts down.
 -- Assumes nothing.
-use native.Mathlib.Omega.{arith}
-use lib.ListN.{length, length-set}
-use mathlib.Core.Path.{_≡_, refl, _∙_}
-use Prim.Native.Nat.{_≤_, _/_, _-_}
+use lib.ListN.{length}
+use mathlib.Core.Path.{_≡_}
+use Prim.Native.Nat.{_≤_, _-_}
 use borrow.Author.Needs.{needs}
 use Rattle.refusal_cases.proofs.limits.fill.Statement.{statement}
 use Rattle.refusal_cases.proofs.limits.fill.Tie as tie

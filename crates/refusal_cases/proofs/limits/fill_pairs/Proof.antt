@@ -2,8 +2,8 @@
 -- Assumes nothing.
 use native.Mathlib.Omega.{arith}
 use lib.ListN.{length, length-set}
-use mathlib.Core.Path.{_≡_, refl, _∙_}
-use Prim.Native.Nat.{_≤_, _/_, _-_}
+use mathlib.Core.Path.{_≡_}
+use Prim.Native.Nat.{_/_, _-_}
 use borrow.Author.Needs.{needs}
 use Rattle.refusal_cases.proofs.limits.fill_pairs.Statement.{statement}
 use Rattle.refusal_cases.proofs.limits.fill_pairs.Tie as tie

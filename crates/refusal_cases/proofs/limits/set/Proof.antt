@@ -1,9 +1,8 @@
 -- A store keeps the length of the words, so each index stays below it.
 -- Assumes nothing.
 use native.Mathlib.Omega.{arith}
-use lib.ListN.{length, length-set}
-use mathlib.Core.Path.{_≡_, refl, _∙_}
-use Prim.Native.Nat.{_≤_, _/_, _-_}
+use lib.ListN.{length-set}
+use Prim.Native.Nat.{_-_}
 use borrow.Author.Needs.{needs}
 use Rattle.refusal_cases.proofs.limits.set.Statement.{statement}
 use Rattle.refusal_cases.proofs.limits.set.Tie as tie

@@ -1,6 +1,5 @@
 -- The number of Ifs left is at most 45, which bounds the row numbers, and it is the measure.
 -- Assumes nothing.
-use native.Mathlib.Omega.{arith}
 use mathlib.Core.Path.{_≡_}
 use Prim.Native.Nat.{_≤_}
 use lib.ListN.{length}
