@@ -51,7 +51,7 @@ no-block : (c : Class) → isBranch c ≡ true → isBlock c ≡ false
 unfolding every lowest
 no-block c t = not-true (isBlock c) (class-rule isBranch (λ c. not (isBlock c)) refl c t)
 
-module _ {w p b cs ds ls : List ℕ} (t : Tables w p b cs ds ls) (x faults : ℕ) (s bs h l : List ℕ) (row : x < rowCount w)
+module _ {w p b cs ds ls : List ℕ} {upto : ℕ} (t : Tables w p b cs ds ls upto) (x faults : ℕ) (s bs h l : List ℕ) (row : x < rowCount w)
     (walking : Walking w p b x faults s bs h l) where
   pub faults-small : faults ≤ 4000
   faults-small = omega (arith, walking .count, faults-fit w p b x (omega arith), t .body .most-rows)

@@ -42,7 +42,7 @@ and-no true false u e = e
 and-no false true u e = sym e
 and-no false false u e = refl
 
-module _ {w p b cs ds ls : List ℕ} (tables : Tables w p b cs ds ls) (x : ℕ) (row : x < rowCount w) (label : isLabel w p b 0 x ≡ true) where
+module _ {w p b cs ds ls : List ℕ} {x : ℕ} (tables : Tables w p b cs ds ls (suc x)) (row : x < rowCount w) (label : isLabel w p b 0 x ≡ true) where
   -- ---- the row
   pub is-labeled : class w x ≡ labeled
   is-labeled = label-class (tables .body) x row label
@@ -85,7 +85,7 @@ module _ {w p b cs ds ls : List ℕ} (tables : Tables w p b cs ds ls) (x : ℕ) 
   the-list : (l : ℕ) × InList l × (lo ≡ suc l)
   the-list =
       let (l, i) = some-list in
-      (l, i, list-read tables x row (rw is-labeled) ∙ ap word (i .is-list))
+      (l, i, list-read tables x (omega arith) row (rw is-labeled) ∙ ap word (i .is-list))
 
   pub list-within : lo ≤ x
   list-within = let (l, i, e) = the-list in omega (arith, i .before)

@@ -78,11 +78,11 @@ module _ (s : List ℕ) (k : ℕ) (fs : List Fault) (fits : (k + length fs) * 4 
 
 -- what the row's work may assume
 abbrev pub AtLabel : (w p b cs ds ls s t heads links : List ℕ) (x faults latest : ℕ) → Type 0
-AtLabel w p b cs ds ls s t heads links x faults latest = Tables w p b cs ds ls
+AtLabel w p b cs ds ls s t heads links x faults latest = Tables w p b cs ds ls (suc x)
     × (Walking w p b x faults s t heads links × (((x < rowCount w) × (isLabel w p b 0 x ≡ true)) × (latest ≡ word (latestDeclaration w p b 0 x))))
 
 module _ {w p b cs ds ls s t heads links : List ℕ} {x faults latest : ℕ} (q : AtLabel w p b cs ds ls s t heads links x faults latest) where
-  abbrev pub tables : Tables w p b cs ds ls
+  abbrev pub tables : Tables w p b cs ds ls (suc x)
   tables = q .0
 
   abbrev pub walking : Walking w p b x faults s t heads links
@@ -130,7 +130,7 @@ module _ {w p b cs ds ls s t heads links : List ℕ} {x faults latest : ℕ} (q 
     canon-row = canon-read tables x c row canon-is
 
     declared-word : d ≡ word (declared w p b 0 x)
-    declared-word = declared-read tables x c d row canon-is (λ e. omega (arith, canon-row, numbered-row tables x row label)) declared-is
+    declared-word = declared-read tables x c d row canon-is (λ e. omega (arith, canon-row, numbered-row tables row label)) declared-is
 
     declared-suc : d ≡ suc (own .0)
     declared-suc = declared-word ∙ ap word (own .1)
@@ -185,19 +185,19 @@ module _ {w p b cs ds ls s t heads links : List ℕ} {x faults latest : ℕ} (q 
       (λ e. let i : latest ≡ 0 = latest-is ∙ ap word e in omega arith)
 
   abbrev pub taken : List ℕ
-  taken = down (takes tables x row label) x
+  taken = down (takes tables row label) x
 
   abbrev pub left : ℕ
-  left = word (highest (waits w p b x (rowCanon w p b x)) (lo tables x row label))
+  left = word (highest (waits w p b x (rowCanon w p b x)) (lo tables row label))
 
   pub left-within : left ≤ x
-  left-within = omega (arith, highest-word (waits w p b x (rowCanon w p b x)) (lo tables x row label), list-within tables x row label)
+  left-within = omega (arith, highest-word (waits w p b x (rowCanon w p b x)) (lo tables row label), list-within tables row label)
 
   jump-count : overs latest taken ≡ length js
-  jump-count = sym (threes-length w latest taken) ∙ ap length (jumps tables x row label latest latest-is)
+  jump-count = sym (threes-length w latest taken) ∙ ap length (jumps tables row label latest latest-is)
 
   pub head-place : {c : ℕ} → c ≡ getD cs (name w x) 0 → c < length heads
-  head-place {c} e = omega (arith, canon-read tables x c row e, canon-in tables x row label, walking .heads-room)
+  head-place {c} e = omega (arith, canon-read tables x c row e, canon-in tables row label, walking .heads-room)
 
   module _ {c list head : ℕ} (canon-is : c ≡ getD cs (name w x) 0) (list-is : list ≡ getD ls x 0) (head-is : head ≡ getD heads c 0) where
     the-canon : c ≡ rowCanon w p b x
@@ -207,12 +207,12 @@ module _ {w p b cs ds ls s t heads links : List ℕ} {x faults latest : ℕ} (q 
     head-row = head-is ∙ ap (λ (n : ℕ). getD heads n 0) the-canon
 
     pub the-chain : Chain links list head taken left
-    the-chain = rw (head-row, list-is) (chain tables x row label walking)
+    the-chain = rw (head-row, list-is) (chain tables row label walking)
 
     pub head-within : head ≤ x
     unfolding previousPending
     head-within =
-        let e = walking .heads-are (rowCanon w p b x) (numbered-row tables x row label) (canon-in tables x row label) in
+        let e = walking .heads-are (rowCanon w p b x) (numbered-row tables row label) (canon-in tables row label) in
         omega (arith, head-row ∙ e, highest-word (waits w p b x (rowCanon w p b x)) x)
 
     abbrev pub counting-asks : Counting links head list
@@ -256,7 +256,7 @@ module _ {w p b cs ds ls s t heads links : List ℕ} {x faults latest : ℕ} (q 
 
         sheet-last : s″ ≡ sets s′ ((faults + length fs) * 4) (faultWords js)
         sheet-last = end-done .reported more (ap (λ (n : ℕ). more + n) (sym over-is))
-            ∙ rw (jumps tables x row label latest latest-is, done .more-is)
+            ∙ rw (jumps tables row label latest latest-is, done .more-is)
 
         reported-own : take ((faults + length fs) * 4) s′ ≡ faultWords (faultsAt w p b x ++ fs)
         reported-own = rw (done .sheet-is) (puts-reported s faults fs more-fits (faultsAt w p b x) (walking .reported))
@@ -275,22 +275,22 @@ module _ {w p b cs ds ls s t heads links : List ℕ} {x faults latest : ℕ} (q 
             rw e (last-kept ∙ sym (drop-drop (length js * 4) a s′) ∙ ap (drop (length js * 4)) own-kept ∙ drop-drop (length js * 4) a s)
 
         abbrev Q : ℕ → Bool
-        Q = takes tables x row label
+        Q = takes tables row label
 
         bound-before : (g : ℕ) → g < rowCount w → g < x → getD (stored t′ taken (suc x)) g 0 ≡ wordAt w p b (suc x) g
         bound-before g h l = case-of (Q g)
             (λ u.
             stored-at Q (suc x) x g t′ (omega (arith, done .same-length, walking .bindings-room)) l u
-            ∙ sym (word-before w p b (suc x) g (omega arith) ∙ bound-taken tables x row label g l u))
+            ∙ sym (word-before w p b (suc x) g (omega arith) ∙ bound-taken tables row label g l u))
             (λ u.
             stored-not Q (suc x) x g t′ (λ m. u) ∙ done .others g (λ e. omega arith) ∙ are-bindings w p b x t g (walking .bound) h
-            ∙ word-before w p b x g l ∙ sym (word-before w p b (suc x) g (omega arith) ∙ bound-not tables x row label g l u))
+            ∙ word-before w p b x g l ∙ sym (word-before w p b (suc x) g (omega arith) ∙ bound-not tables row label g l u))
 
         bound-at : (g : ℕ) → g < rowCount w → getD (stored t′ taken (suc x)) g 0 ≡ wordAt w p b (suc x) g
         bound-at g h = elim (decLt g x) [
           | yes l ↦ bound-before g h l
           | no n ↦ stored-not Q (suc x) x g t′ (λ m. absurd (n m)) ∙ elim (ℕ-discrete g x) [
-            | yes e ↦ rw e (done .own-bound ∙ sym (word-before w p b (suc x) x (omega arith) ∙ at-other w p b (suc x) x (no-goto tables x row label)))
+            | yes e ↦ rw e (done .own-bound ∙ sym (word-before w p b (suc x) x (omega arith) ∙ at-other w p b (suc x) x (no-goto tables row label)))
             | no o ↦
                 done .others g o ∙ are-bindings w p b x t g (walking .bound) h ∙ word-from w p b x g (omega arith)
                 ∙ sym (word-from w p b (suc x) g (omega arith))
@@ -305,9 +305,9 @@ module _ {w p b cs ds ls s t heads links : List ℕ} {x faults latest : ℕ} (q 
           | yes e ↦
               let i : d ≡ c = e ∙ sym the-canon in
               ap (λ (n : ℕ). getD (set heads c rest) n 0) i ∙ getD-set-same heads c rest 0 (omega (arith, walking .heads-room)) ∙ end-done .left
-              ∙ ap word (sym (head-own tables x row label)) ∙ ap (λ (n : ℕ). word (previousPending w p b (suc x) n (suc x))) (sym e)
+              ∙ ap word (sym (head-own tables row label)) ∙ ap (λ (n : ℕ). word (previousPending w p b (suc x) n (suc x))) (sym e)
           | no n ↦
-              getD-set-other heads c d rest 0 (λ e. n (e ∙ the-canon)) ∙ walking .heads-are d z k ∙ ap word (sym (head-other tables x row label d n))
+              getD-set-other heads c d rest 0 (λ e. n (e ∙ the-canon)) ∙ walking .heads-are d z k ∙ ap word (sym (head-other tables row label d n))
         ]
 
         pub label-walked : Walked w p b (suc x) end-of s t s″ t″ (set heads c rest) links
@@ -322,10 +322,10 @@ module _ {w p b cs ds ls s t heads links : List ℕ} {x faults latest : ℕ} (q 
                 (bindings-are w p b (suc x) (stored t′ taken (suc x)) (omega (arith, walking .bindings-room, stored-length t′ taken (suc x), done .same-length)) bound-at);
             heads-room = rw length-set (walking .heads-room);
             heads-are = heads-at;
-            block-links = links-other w p b x links (no-block tables x row label) (walking .block-links);
+            block-links = links-other w p b x links (no-block tables row label) (walking .block-links);
             goto-links = λ g h q z.
-                let (l, q′) = still-waits tables x row label g h q in
-                walking .goto-links g l q′ z ∙ ap word (sym (link-same tables x row label g l q));
+                let (l, q′) = still-waits tables row label g h q in
+                walking .goto-links g l q′ z ∙ ap word (sym (link-same tables row label g l q));
           };
           sheet-length = ap length sheet-last ∙ length-sets s′ ((faults + length fs) * 4) (faultWords js) ∙ sheet-same;
           sheet-kept = kept-all;

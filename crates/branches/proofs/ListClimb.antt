@@ -51,13 +51,13 @@ pub record Climbing (w p b : List ℕ) (c g list : ℕ) : Type 0 where
   pub reaches : 0 < list → g < end w (list - 1)
   pub passed : (k t : ℕ) → list ≤ k → BlockAround w g k → currentLabel w p b k ≡ some t → rowCanon w p b t ≡ c → ⊥
 
-module _ {w p b cs ds ls : List ℕ} (t : Tables w p b cs ds ls) (g c : ℕ) (row : g < rowCount w) (ec : c ≡ getD cs (name w g) 0) where
+module _ {w p b cs ds ls : List ℕ} {g : ℕ} (t : Tables w p b cs ds ls (suc g)) (c : ℕ) (row : g < rowCount w) (ec : c ≡ getD cs (name w g) 0) where
   -- ---- the start
   pub climb-start : (list : ℕ) → list ≡ getD ls g 0 → Climbing w p b c g list
   climb-start list e = case-found (innermost w 0 holdsItems g)
       (λ q f.
       let i = innermost-found w 0 holdsItems g q f in
-      let v : list ≡ suc q = e ∙ t .listed g row ∙ ap word f in
+      let v : list ≡ suc q = e ∙ t .listed g (omega arith) ∙ ap word f in
       let u : list - 1 ≡ q = omega arith in
       record {
         before = omega (arith, i .before);
@@ -67,7 +67,7 @@ module _ {w p b cs ds ls : List ℕ} (t : Tables w p b cs ds ls) (g c : ℕ) (ro
             (record { before = a .before; from = omega arith; reaches = a .reaches; passes = block-holds (class w k) (a .blocks) });
       })
       (λ f.
-      let v : list ≡ 0 = e ∙ t .listed g row ∙ ap word f in
+      let v : list ≡ 0 = e ∙ t .listed g (omega arith) ∙ ap word f in
       record {
         before = omega arith;
         reaches = λ h. absurd (omega arith);
@@ -112,7 +112,7 @@ module _ {w p b cs ds ls : List ℕ} (t : Tables w p b cs ds ls) (g c : ℕ) (ro
     climb-on next e other = case-found (innermost w 0 holdsItems (list - 1))
         (λ q f.
         let i = innermost-found w 0 holdsItems (list - 1) q f in
-        let v : next ≡ suc q = e ∙ t .listed (list - 1) climb-in ∙ ap word f in
+        let v : next ≡ suc q = e ∙ t .listed (list - 1) (omega (arith, climb-row)) ∙ ap word f in
         let u : next - 1 ≡ q = omega arith in
         let before = i .before in
         let reach = m .reaches h in
@@ -125,7 +125,7 @@ module _ {w p b cs ds ls : List ℕ} (t : Tables w p b cs ds ls) (g c : ℕ) (ro
               (record { before = n; from = omega arith; reaches = omega (arith, a .reaches, climb-row); passes = block-holds (class w k) (a .blocks) }));
         })
         (λ f.
-        let v : next ≡ 0 = e ∙ t .listed (list - 1) climb-in ∙ ap word f in
+        let v : next ≡ 0 = e ∙ t .listed (list - 1) (omega (arith, climb-row)) ∙ ap word f in
         record {
           before = omega arith;
           reaches = λ h. absurd (omega arith);
@@ -148,7 +148,7 @@ module _ {w p b cs ds ls : List ℕ} (t : Tables w p b cs ds ls) (g c : ℕ) (ro
     climb-plain next k e f n = climb-on next e (λ s u x y. clash (cc (no-block k f n)))
 
     pub climb-less : (next : ℕ) → next ≡ getD ls (list - 1) 0 → next < list
-    climb-less next e = omega (arith, list-before t (list - 1) climb-in)
+    climb-less next e = omega (arith, list-before t (list - 1) (omega (arith, climb-row)))
 
     -- a Block: label is its word in the links
     module _ (k : ℕ) (ek : k ≡ kind w (list - 1)) (i : k ≡ 12) (links : List ℕ) (linked : BlockLinks w p b g links) (label : ℕ)

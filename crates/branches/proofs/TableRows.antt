@@ -23,7 +23,7 @@ use Rattle.rules.proofs.GotoRows.{list-some, list-none, earlier-is, earlier-aft
 use Rattle.tables.specs.Canon.{rowCanon, Tables}
 use Rattle.tables.proofs.Labelling.{row-canon-within, declared-canon, declared-blank, labels-canon}
 
-module _ {w p b cs ds ls : List ℕ} (t : Tables w p b cs ds ls) where
+module _ {w p b cs ds ls : List ℕ} {x : ℕ} (t : Tables w p b cs ds ls x) where
   pub canon-place : (r : ℕ) → r < rowCount w → name w r < length cs
   canon-place r h = omega (arith, t .by-name .room, name-within (t .body) r h)
 
@@ -41,31 +41,32 @@ module _ {w p b cs ds ls : List ℕ} (t : Tables w p b cs ds ls) where
       ∙ ap word (declared-canon (t .body) r h y)
 
   -- the list of a statement
-  pub list-read : (r : ℕ) → r < rowCount w → isStatement (class w r) ≡ true → getD ls r 0 ≡ word (listOf w 0 r)
-  list-read r h s = t .listed r h ∙ ap word (sym (statement-list (t .body) 0 r h s))
+  pub list-read : (r : ℕ) → r < x → r < rowCount w → isStatement (class w r) ≡ true → getD ls r 0 ≡ word (listOf w 0 r)
+  list-read r l h s = t .listed r l ∙ ap word (sym (statement-list (t .body) 0 r h s))
 
   -- a row that holds items stands before what it holds
-  pub list-before : (r : ℕ) → r < rowCount w → getD ls r 0 ≤ r
+  pub list-before : (r : ℕ) → r < x → getD ls r 0 ≤ r
   list-before r h = case-found (innermost w 0 holdsItems r)
       (λ k e. let f = t .listed r h ∙ ap word e in omega (arith, innermost-found w 0 holdsItems r k e .before))
       (λ e. let f = t .listed r h ∙ ap word e in omega arith)
 
-  -- ---- the declared label before a goto, step by step: c is the goto's canonical number, d the declared label's word, l that of its list
-  module _ (g c : ℕ) (row : g < rowCount w) (ec : c ≡ getD cs (name w g) 0) where
+-- ---- the declared label before a goto, step by step: c is the goto's canonical number, d the declared label's word, l that of its list
+module _ {w p b cs ds ls : List ℕ} {g : ℕ} (t : Tables w p b cs ds ls (suc g)) where
+  module _ (c : ℕ) (row : g < rowCount w) (ec : c ≡ getD cs (name w g) 0) where
     pub no-canon : c ≡ 0 → 0 ≡ word (earlier w p b 0 g)
-    no-canon z = sym (ap word (earlier-none w p b 0 g (declared-blank (t .body) g row (sym (canon-read g c row ec) ∙ z))))
+    no-canon z = sym (ap word (earlier-none w p b 0 g (declared-blank (t .body) g row (sym (canon-read t g c row ec) ∙ z))))
 
     module _ (z : c ≡ 0 → ⊥) (d : ℕ) (ed : d ≡ getD ds c 0) where
       pub no-declared : d ≡ 0 → 0 ≡ word (earlier w p b 0 g)
       no-declared y = case-found (declared w p b 0 g)
-          (λ k e. let f = declared-read g c d row ec z ed ∙ ap word e in absurd (omega arith))
+          (λ k e. let f = declared-read t g c d row ec z ed ∙ ap word e in absurd (omega arith))
           (λ e. sym (ap word (earlier-none w p b 0 g e)))
 
       module _ (y : d ≡ 0 → ⊥) where
         label : declared w p b 0 g ≡ some (d - 1)
         label =
             let i : suc (d - 1) ≡ d = omega arith in
-            word-found (declared w p b 0 g) (d - 1) (sym (declared-read g c d row ec z ed) ∙ sym i)
+            word-found (declared w p b 0 g) (d - 1) (sym (declared-read t g c d row ec z ed) ∙ sym i)
 
         pub label-after : g ≤ d - 1 → 0 ≡ word (earlier w p b 0 g)
         label-after h = sym (ap word (earlier-after w p b 0 g (d - 1) label h))
@@ -76,7 +77,7 @@ module _ {w p b cs ds ls : List ℕ} (t : Tables w p b cs ds ls) where
               let i = is-declared w p b 0 g (d - 1) label in
               let m : d - 1 < rowCount w = omega arith in
               let s = labels-canon (t .body) g (d - 1) row m (i .1) .0 in
-              el ∙ list-read (d - 1) m (rw s)
+              el ∙ list-read t (d - 1) (omega arith) m (rw s)
 
           pub no-list : l ≡ 0 → 0 ≡ word (earlier w p b 0 g)
           no-list x = case-found (listOf w 0 (d - 1))
@@ -84,7 +85,7 @@ module _ {w p b cs ds ls : List ℕ} (t : Tables w p b cs ds ls) where
               (λ e. sym (ap word (earlier-outside w p b 0 g (d - 1) label (list-none w 0 (d - 1) g e))))
 
           list-row : l ≤ d - 1
-          list-row = omega (arith, list-before (d - 1) (omega arith))
+          list-row = omega (arith, list-before t (d - 1) (omega arith))
 
           pub list-in : l - 1 < rowCount w
           list-in = omega (arith, list-row)

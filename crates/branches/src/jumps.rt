@@ -27,7 +27,7 @@ fn goto_target(
     lists: &[u16],
     row: RowNumber,
 ) -> usize
-    requires { ⌜ Tables (now rows) (now pairs) (now bytes) (now canons) (now declareds) (now lists) ⌝ }
+    requires { ⌜ Tables (now rows) (now pairs) (now bytes) (now canons) (now declareds) (now lists) (suc (row .0)) ⌝ }
     requires { ⌜ (row .0 < rowCount (now rows)) × (class (now rows) (row .0) ≡ goto) ⌝ }
     ensures { λ r. ⌜ r ≡ word (earlier (now (rows .entry)) (now (pairs .entry)) (now (bytes .entry)) 0 (row .0)) ⌝ }
 {
@@ -66,7 +66,7 @@ fn enclosing_target(
     links: &[u16],
     row: RowNumber,
 ) -> usize
-    requires { ⌜ Tables (now rows) (now pairs) (now bytes) (now canons) (now declareds) (now lists) ⌝ }
+    requires { ⌜ Tables (now rows) (now pairs) (now bytes) (now canons) (now declareds) (now lists) (suc (row .0)) ⌝ }
     requires { ⌜ BlockLinks (now rows) (now pairs) (now bytes) (row .0) (now links) ⌝ }
     requires { ⌜ (row .0 < rowCount (now rows)) × (isBranch (class (now rows) (row .0)) ≡ true) ⌝ }
     ensures { λ r. ⌜ r ≡ word (target (now (rows .entry)) (now (pairs .entry)) (now (bytes .entry)) 0 (row .0)) ⌝ }
@@ -103,7 +103,7 @@ fn valid_target(
     links: &[u16],
     row: RowNumber,
 ) -> bool
-    requires { ⌜ Tables (now rows) (now pairs) (now bytes) (now canons) (now declareds) (now lists) ⌝ }
+    requires { ⌜ Tables (now rows) (now pairs) (now bytes) (now canons) (now declareds) (now lists) (suc (row .0)) ⌝ }
     requires { ⌜ BlockLinks (now rows) (now pairs) (now bytes) (row .0) (now links) ⌝ }
     requires { ⌜ (row .0 < rowCount (now rows)) × (oneOf (break ∷ continue ∷ []) (class (now rows) (row .0)) ≡ true) ⌝ }
     ensures { λ r. ⌜ r ≡ validTarget (now (rows .entry)) (now (pairs .entry)) (now (bytes .entry)) 0 (row .0) ⌝ }
@@ -136,7 +136,7 @@ fn break_branches(
     row: RowNumber,
     faults: usize,
 ) -> usize
-    requires { ⌜ Tables (now rows) (now pairs) (now bytes) (now canons) (now declareds) (now lists) ⌝ }
+    requires { ⌜ Tables (now rows) (now pairs) (now bytes) (now canons) (now declareds) (now lists) (suc (row .0)) ⌝ }
     requires { ⌜ Walking (now rows) (now pairs) (now bytes) (row .0) faults (now sheet) (now bindings) (now heads) (now links) ⌝ }
     requires { ⌜ (row .0 < rowCount (now rows)) × (oneOf (break ∷ continue ∷ []) (class (now rows) (row .0)) ≡ true) × (0 < name (now rows) (row .0)) ⌝ }
     ensures { λ r. ⌜ Walked (now (rows .entry)) (now (pairs .entry)) (now (bytes .entry)) (suc (row .0)) r (now (sheet .entry)) (now (bindings .entry)) (now (sheet .exit)) (now (bindings .exit)) (now (heads .entry)) (now (links .entry)) ⌝ }
@@ -167,7 +167,7 @@ fn goto_branches(
     row: RowNumber,
     faults: usize,
 )
-    requires { ⌜ Tables (now rows) (now pairs) (now bytes) (now canons) (now declareds) (now lists) ⌝ }
+    requires { ⌜ Tables (now rows) (now pairs) (now bytes) (now canons) (now declareds) (now lists) (suc (row .0)) ⌝ }
     requires { ⌜ Walking (now rows) (now pairs) (now bytes) (row .0) faults (now sheet) (now bindings) (now heads) (now links) ⌝ }
     requires { ⌜ (row .0 < rowCount (now rows)) × (class (now rows) (row .0) ≡ goto) ⌝ }
     ensures { λ _. ⌜ Walked (now (rows .entry)) (now (pairs .entry)) (now (bytes .entry)) (suc (row .0)) faults (now (sheet .entry)) (now (bindings .entry)) (now (sheet .entry)) (now (bindings .exit)) (now (heads .exit)) (now (links .exit)) ⌝ }
@@ -200,7 +200,7 @@ pub fn jump_branches(
     row: RowNumber,
     faults: usize,
 ) -> usize
-    requires { ⌜ Tables (now rows) (now pairs) (now bytes) (now canons) (now declareds) (now lists) ⌝ }
+    requires { ⌜ Tables (now rows) (now pairs) (now bytes) (now canons) (now declareds) (now lists) (suc (row .0)) ⌝ }
     requires { ⌜ Walking (now rows) (now pairs) (now bytes) (row .0) faults (now sheet) (now bindings) (now heads) (now links) ⌝ }
     requires { ⌜ (row .0 < rowCount (now rows)) × (isBranch (class (now rows) (row .0)) ≡ true) ⌝ }
     ensures { λ r. ⌜ Walked (now (rows .entry)) (now (pairs .entry)) (now (bytes .entry)) (suc (row .0)) r (now (sheet .entry)) (now (bindings .entry)) (now (sheet .exit)) (now (bindings .exit)) (now (heads .exit)) (now (links .exit)) ⌝ }

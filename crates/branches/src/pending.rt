@@ -108,7 +108,7 @@ pub fn label_branches(
     latest: usize,
     faults: usize,
 ) -> usize
-    requires { ⌜ Tables (now rows) (now pairs) (now bytes) (now canons) (now declareds) (now lists) ⌝ }
+    requires { ⌜ Tables (now rows) (now pairs) (now bytes) (now canons) (now declareds) (now lists) (suc (row .0)) ⌝ }
     requires { ⌜ Walking (now rows) (now pairs) (now bytes) (row .0) faults (now sheet) (now bindings) (now heads) (now links) ⌝ }
     requires { ⌜ (row .0 < rowCount (now rows)) × (isLabel (now rows) (now pairs) (now bytes) 0 (row .0) ≡ true) ⌝ }
     requires { ⌜ latest ≡ word (latestDeclaration (now rows) (now pairs) (now bytes) 0 (row .0)) ⌝ }

@@ -23,7 +23,6 @@ use Rattle.rules.proofs.Scan.{none-highest}
 use Rattle.rules.proofs.ClassTests.{one-is}
 use Rattle.rules.proofs.Every.{is-one}
 use Rattle.canonical.proofs.Zeros.{zeros-at}
-use Rattle.lists.specs.Listed.{Listed}
 use Rattle.tables.specs.Canon.{CanonTable, DeclaredTable, Tables}
 use Rattle.branches.specs.Walk.{Walking, Walked, faultsAt, bindingAt, previousPending}
 use Rattle.tables.proofs.Labelling.{body-end}
@@ -75,12 +74,11 @@ module _ (w p b : List ℕ) where
     goto-links = λ g y e z. absurd (omega arith);
   }
 
--- the tables are made, and the walk goes on from row 0
-pub walk-requires : {w p b : List ℕ} → Body w p b → (cs′ ds′ ls′ cs ds ls s t h l d m u : List ℕ) → Lent w p cs ds ls s t h l d m u → CanonTable p b cs′
-    → DeclaredTable w p b ds′ → length ls′ ≡ length ls → Listed w ls′
-    → Tables w p b cs′ ds′ ls′ × (Walking w p b 0 0 s t h l × Contexts w p b 0 d m)
-walk-requires {w} {p} {b} body cs′ ds′ ls′ cs ds ls s t h l d m u lent by-name by-canon same listed = (
-  record { body = body; by-name = by-name; by-canon = by-canon; lists-room = omega (arith, lent .lists-room); listed = listed },
+-- the tables are made, but for the lists, and the walk goes on from row 0
+pub walk-requires : {w p b : List ℕ} → Body w p b → (cs′ ds′ cs ds ls s t h l d m u : List ℕ) → Lent w p cs ds ls s t h l d m u → CanonTable p b cs′
+    → DeclaredTable w p b ds′ → Tables w p b cs′ ds′ ls 0 × (Walking w p b 0 0 s t h l × Contexts w p b 0 d m)
+walk-requires {w} {p} {b} body cs′ ds′ cs ds ls s t h l d m u lent by-name by-canon = (
+  record { body = body; by-name = by-name; by-canon = by-canon; lists-room = lent .lists-room; listed = λ r z. absurd (omega arith) },
   (
     walking-start w p b cs ds ls s t h l d m u lent,
     contexts-start (lent .latests-room) (lent .latests-zero) (lent .labels-room) (lent .labels-zero),

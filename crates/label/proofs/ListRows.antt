@@ -5,10 +5,11 @@ use mathlib.Core.Path.{_≡_, refl, sym, _∙_, ap}
 use mathlib.Core.Bool.{Bool, true, false, _&&_, not}
 use mathlib.Core.List.{List}
 use mathlib.Core.Option.{some}
-use Prim.Native.Nat.{ℕ, suc, _-_, _≤_, _<_}
+use Prim.Native.Nat.{ℕ, suc, _+_, _-_, _≤_, _<_}
+use native.Mathlib.Numerals.{add-one}
 use native.Mathlib.Omega.{arith}
 use native.Mathlib.Decide.{ℕ-discrete}
-use lib.ListN.{getD}
+use lib.ListN.{length, getD, set, length-set}
 use borrow.Author.Tests.{not-true}
 use Rattle.rules.specs.Scan.{lowest}
 use Rattle.rules.specs.Rows.{rowCount}
@@ -22,6 +23,8 @@ use Rattle.rules.proofs.ClassRules.{class-rule, child-rule}
 use Rattle.rules.proofs.Nesting.{item-from, child-around}
 use Rattle.rules.proofs.Around.{Innermost, innermost-found, innermost-last, innermost-none}
 use Rattle.rules.proofs.Lists.{found-innermost, none-innermost, statement-list}
+use Rattle.lists.specs.Listed.{ListedBelow}
+use Rattle.lists.proofs.Opened.{listed-more}
 use Rattle.tables.specs.Canon.{Tables}
 use Rattle.tables.proofs.Labelling.{body-end}
 use Rattle.label.specs.Contexts.{Listing}
@@ -98,18 +101,29 @@ pub record InList (w : List ℕ) (x list : ℕ) : Type 0 where
   pub some-row : 0 < list
   pub before : list ≤ x
 
-pub listing : {w p b cs ds ls : List ℕ} → Tables w p b cs ds ls → Listing w p b ls
+pub listing : {w p b cs ds ls : List ℕ} {x : ℕ} → Tables w p b cs ds ls x → Listing w p b ls x
 listing t = record { body = t .body; room = t .lists-room; listed = t .listed }
 
-module _ {w p b ls : List ℕ} (t : Listing w p b ls) (x : ℕ) (h : x < rowCount w) where
+module _ {w p b ls : List ℕ} {x : ℕ} (t : Listing w p b ls (suc x)) (h : x < rowCount w) where
   pub block-word : isBlock (class w x) ≡ true → getD ls x 0 ≡ word (listOf w 0 x)
-  block-word u = t .listed x h ∙ ap word (sym (block-list (t .body) x h u))
+  block-word u = t .listed x (omega arith) ∙ ap word (sym (block-list (t .body) x h u))
 
   -- that of a statement but a Block
   pub in-list : (list : ℕ) → list ≡ getD ls x 0 → isStatement (class w x) ≡ true → (class w x ≡ block → ⊥) → InList w x list
   in-list list e s n =
       let (l, f) = some-list (t .body) x (after-root (t .body) x n) h in
-      let i : list ≡ suc l = e ∙ t .listed x h ∙ ap word (sym (statement-list (t .body) 0 x h s) ∙ f) in
+      let i : list ≡ suc l = e ∙ t .listed x (omega arith) ∙ ap word (sym (statement-list (t .body) 0 x h s) ∙ f) in
       let j : l ≡ list - 1 = omega arith in
       let before = list-before (t .body) x l f .before in
       record { is-list = f ∙ ap some j; some-row = omega arith; before = omega arith }
+
+-- ---- one row further: its list v is written
+pub lists-next : (w ls ls₀ : List ℕ) (r v : ℕ) → length ls ≡ length ls₀ → rowCount w ≤ length ls₀ → r < rowCount w
+    → v ≡ word (innermost w 0 holdsItems r) → ListedBelow w ls r → (length (set ls r v) ≡ length ls₀) × ListedBelow w (set ls r v) (r + 1)
+lists-next w ls ls₀ r v same room h e listed = (length-set ls r v ∙ same, listed-more w ls r v (omega arith) e listed)
+
+pub tables-next : {w p b cs ds : List ℕ} (ls ls₀ : List ℕ) (r v : ℕ) → Tables w p b cs ds ls₀ 0 → length ls ≡ length ls₀ → r < rowCount w
+    → v ≡ word (innermost w 0 holdsItems r) → ListedBelow w ls r → Tables w p b cs ds (set ls r v) (suc r)
+tables-next {w} ls ls₀ r v t same h e listed =
+    let n = lists-next w ls ls₀ r v same (t .lists-room) h e listed in
+    record { body = t .body; by-name = t .by-name; by-canon = t .by-canon; lists-room = omega (arith, n .0, t .lists-room); listed = rw add-one at (n .1) }

@@ -17,7 +17,7 @@ use Rattle.label.specs.Contexts.{latestLabel, ListTable, Listing, Contex
 use Rattle.label.proofs.RowWords.{is-block, no-block, is-declaration, other-detail, other-kind, no-block-detail}
 use Rattle.label.proofs.ContextRows.{latests-kept}
 
-module _ {w p b ls d m : List ℕ} (t : Listing w p b ls) (x : ℕ) (h : x < rowCount w) (contexts : Contexts w p b x d m)
+module _ {w p b ls d m : List ℕ} {upto : ℕ} (t : Listing w p b ls upto) (x : ℕ) (h : x < rowCount w) (contexts : Contexts w p b x d m)
     (k : ℕ) (e : k ≡ kind w x) (v : ℕ) (ev : v ≡ detail w x) where
   no-link : isBlock (class w x) ≡ false → {l : List ℕ} → BlockLinked w p b x l l
   no-link n = record { at-block = λ i. absurd (clash (cc)); elsewhere = λ i. refl }
@@ -27,7 +27,7 @@ module _ {w p b ls d m : List ℕ} (t : Listing w p b ls) (x : ℕ) (h : x < row
 
   -- ---- detail 1
   module _ (i : v ≡ 1) {q : Bool} (eq : q ≡ (eqb k 1 || eqb k 7)) where
-    pub declared-asks : q ≡ true → Listing w p b ls × (Contexts w p b x d m × ((x < rowCount w) × (isClass w declaration x ≡ true)))
+    pub declared-asks : q ≡ true → Listing w p b ls upto × (Contexts w p b x d m × ((x < rowCount w) × (isClass w declaration x ≡ true)))
     declared-asks y = (t, (contexts, (h, is-declaration (t .body) x h k e v ev i (sym eq ∙ y))))
 
     pub declared-gives : {l d′ : List ℕ} → ListTable w (latestIn w p b) (suc x) d′
@@ -39,7 +39,7 @@ module _ {w p b ls d m : List ℕ} (t : Listing w p b ls) (x : ℕ) (h : x < row
 
   -- ---- another detail
   pub block-asks : (l : List ℕ) → rowCount w ≤ length l → k ≡ 12
-      → Listing w p b ls × (ListTable w (latestLabel w p b) x m × ((x < rowCount w) × (isBlock (class w x) ≡ true) × (rowCount w ≤ length l)))
+      → Listing w p b ls upto × (ListTable w (latestLabel w p b) x m × ((x < rowCount w) × (isBlock (class w x) ≡ true) × (rowCount w ≤ length l)))
   block-asks l room i = (t, (contexts .labels-are, (h, is-block (t .body) x h k e i, room)))
 
   pub block-gives : {l l′ : List ℕ} → (v ≡ 1 → ⊥) → k ≡ 12 → l′ ≡ set l x (word (currentLabel w p b x))

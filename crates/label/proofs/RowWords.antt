@@ -10,7 +10,7 @@ use borrow.Author.Tests.{eq-eqb, ne-eqb}
 use Rattle.rules.specs.Scan.{lowest}
 use Rattle.rules.specs.Rows.{rowCount, kind, detail}
 use Rattle.rules.specs.Class.{Class, declaration, labeled, oneOf, isBranch, detailAllowed, classOf, following, base, class}
-use Rattle.rules.specs.Scope.{isBlock}
+use Rattle.rules.specs.Scope.{isBlock, holdsItems}
 use Rattle.rules.specs.Body.{Body}
 use Rattle.rules.specs.Labels.{isClass, isLabel}
 use Rattle.rules.proofs.Test.{clash}
@@ -57,6 +57,10 @@ module _ {w p b : List ℕ} (body : Body w p b) (x : ℕ) (h : x < rowCount w) w
   unfolding every lowest detailAllowed classOf
   declaration-words = by-words (λ k d. (eqb k 1 || eqb k 7) && eqb d 1) (oneOf (declaration ∷ [])) refl refl body x h
 
+  items-words : (eqb (kind w x) 12 || (eqb (kind w x) 14 || eqb (kind w x) 17)) ≡ holdsItems (class w x)
+  unfolding every lowest detailAllowed classOf
+  items-words = by-words (λ k d. eqb k 12 || (eqb k 14 || eqb k 17)) holdsItems refl refl body x h
+
   -- ---- by the kind that the code has read
   module _ (k : ℕ) (e : k ≡ kind w x) where
     pub is-labeled : k ≡ 3 → class w x ≡ labeled
@@ -76,6 +80,10 @@ module _ {w p b : List ℕ} (body : Body w p b) (x : ℕ) (h : x < rowCount w) w
 
     pub no-block : (k ≡ 12 → ⊥) → isBlock (class w x) ≡ false
     no-block n = sym block-words ∙ ne-eqb (kind w x) 12 (λ i. n (e ∙ i))
+
+    pub no-items : (k ≡ 12 → ⊥) → (k ≡ 14 → ⊥) → (k ≡ 17 → ⊥) → holdsItems (class w x) ≡ false
+    no-items l m n =
+        sym items-words ∙ rw (ne-eqb (kind w x) 12 (λ i. l (e ∙ i)), ne-eqb (kind w x) 14 (λ i. m (e ∙ i)), ne-eqb (kind w x) 17 (λ i. n (e ∙ i)))
 
     pub no-declaration : (k ≡ 1 → ⊥) → (k ≡ 7 → ⊥) → isClass w declaration x ≡ false
     no-declaration m n = sym declaration-words ∙ rw (ne-eqb (kind w x) 1 (λ i. m (e ∙ i)), ne-eqb (kind w x) 7 (λ i. n (e ∙ i)))

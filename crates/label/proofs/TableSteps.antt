@@ -41,10 +41,10 @@ placed body x h contexts list j =
     )
 
 -- ---- a declaration
-module _ {w p b ls d m : List ℕ} (t : Listing w p b ls) (x : ℕ) (h : x < rowCount w) (contexts : Contexts w p b x d m)
+module _ {w p b ls d m : List ℕ} {x : ℕ} (t : Listing w p b ls (suc x)) (h : x < rowCount w) (contexts : Contexts w p b x d m)
     (declares : isClass w declaration x ≡ true) (list : ℕ) (e : list ≡ getD ls x 0) where
   its-list : InList w x list
-  its-list = let c = is-one (class w x) declaration declares in in-list t x h list e (rw c) (λ j. clash (cc))
+  its-list = let c = is-one (class w x) declaration declares in in-list t h list e (rw c) (λ j. clash (cc))
 
   pub declared-list : Placed list d m
   declared-list = placed (t .body) x h contexts list its-list
@@ -64,7 +64,7 @@ module _ {w p b ls d m : List ℕ} (t : Listing w p b ls) (x : ℕ) (h : x < row
         rw (declared-row, add-one x) (latests-set w p b x d (list - 1) declares (j .is-list) (omega arith) (contexts .latests-are))
 
 -- ---- a Labeled row; n is its canonical number
-module _ {w p b cs ds ls d m : List ℕ} (t : Tables w p b cs ds ls) (x : ℕ) (h : x < rowCount w) (c : class w x ≡ labeled) (contexts : Contexts w p b x d m)
+module _ {w p b cs ds ls d m : List ℕ} {x : ℕ} (t : Tables w p b cs ds ls (suc x)) (h : x < rowCount w) (c : class w x ≡ labeled) (contexts : Contexts w p b x d m)
     (n : ℕ) (en : n ≡ getD cs (name w x) 0) where
   pub blank : n ≡ 0 → isLabel w p b 0 x ≡ false
   blank z = case-of (isLabel w p b 0 x)
@@ -79,7 +79,7 @@ module _ {w p b cs ds ls d m : List ℕ} (t : Tables w p b cs ds ls) (x : ℕ) (
     labels = numbered-label (t .body) x h c (omega (arith, canon-read t x n h en))
 
     label-in : InList w x list
-    label-in = in-list (listing t) x h list e (rw c) (λ j. clash (cc))
+    label-in = in-list (listing t) h list e (rw c) (λ j. clash (cc))
 
     pub label-list : Placed list d m
     label-list = placed (t .body) x h contexts list label-in
@@ -105,18 +105,18 @@ module _ {w p b cs ds ls d m : List ℕ} (t : Tables w p b cs ds ls) (x : ℕ) (
           rw (labelled-row, add-one x) (labels-set w p b x m (list - 1) labels (j .is-list) (omega arith) (contexts .labels-are))
 
 -- ---- a Block; `label` is the word of its list in the table of the labels, s the size of that label's statement
-module _ {w p b ls m : List ℕ} (t : Listing w p b ls) (x : ℕ) (h : x < rowCount w) (u : isBlock (class w x) ≡ true)
+module _ {w p b ls m : List ℕ} {x : ℕ} (t : Listing w p b ls (suc x)) (h : x < rowCount w) (u : isBlock (class w x) ≡ true)
     (labels : ListTable w (latestLabel w p b) x m) (list : ℕ) (e : list ≡ getD ls x 0) where
   pub outside : list ≡ 0 → 0 ≡ word (currentLabel w p b x)
   outside z = case-found (listOf w 0 x)
-      (λ l f. let i = e ∙ block-word t x h u ∙ ap word f in absurd (omega arith))
+      (λ l f. let i = e ∙ block-word t h u ∙ ap word f in absurd (omega arith))
       (λ f. sym (ap word (no-list (t .body) x f)))
 
   module _ (n : list ≡ 0 → ⊥) where
     block-in : listOf w 0 x ≡ some (list - 1)
     block-in =
         let i : suc (list - 1) ≡ list = omega arith in
-        word-found (listOf w 0 x) (list - 1) (sym (e ∙ block-word t x h u) ∙ sym i)
+        word-found (listOf w 0 x) (list - 1) (sym (e ∙ block-word t h u) ∙ sym i)
 
     pub block-list : (0 < list) × (list ≤ x) × (list - 1 < length m)
     block-list =

@@ -12,7 +12,7 @@ use Rattle.rules.specs.Class.{class}
 use Rattle.rules.specs.Scope.{isBlock, listOf}
 use Rattle.rules.specs.Body.{Body}
 use Rattle.rules.specs.Labels.{is, isLabel, word}
-use Rattle.lists.specs.Listed.{Listed}
+use Rattle.lists.specs.Listed.{ListedBelow}
 use Rattle.branches.specs.Walk.{latestIn, currentLabel}
 
 -- at the row of each list l: `latest l x`, 1 + its row, or 0
@@ -30,11 +30,11 @@ module _ (w p b : List ℕ) where
     pub latests-are : ListTable w (latestIn w p b) x latests
     pub labels-are : ListTable w latestLabel x labels
 
-  -- a well-formed body, and the list of each row
-  pub record Listing (lists : List ℕ) : Type 0 where
+  -- a well-formed body, and the lists of the rows before x
+  pub record Listing (lists : List ℕ) (x : ℕ) : Type 0 where
     pub body : Body w p b
     pub room : rowCount w ≤ length lists
-    pub listed : Listed w lists
+    pub listed : ListedBelow w lists x
 
   -- the links at row x and after it: a Block's own is set, every other row leaves them
   pub record BlockLinked (x : ℕ) (links later : List ℕ) : Type 0 where

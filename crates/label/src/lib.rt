@@ -79,7 +79,6 @@ fn walk_body(
 {
     tables::canon_table(pairs, bytes, canons);
     tables::declared_table(rows, pairs, bytes, canons, declareds);
-    lists::lists_of(rows, lists);
     let walked = walk::rows_branches(
         rows,
         pairs,

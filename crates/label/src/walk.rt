@@ -1,17 +1,22 @@
 // The walk over the rows in order, which takes the state at each row to the state at the next. The
-// context of a list, its latest declaration and its latest label so far, stands in two tables by the
-// list's row, each 1 + its row, or 0.
+// list of a row is written as the walk comes to the row. The context of a list, its latest
+// declaration and its latest label so far, stands in two tables by the list's row, each 1 + its row,
+// or 0.
 use context::Context;
+use lists::Around;
+use lists::list_after;
+use lists::list_at;
 use rows::RowNumber;
 ghost use mathlib.Core.Path.{_≡_};
 ghost use mathlib.Core.Bool.{true, _||_};
-ghost use Prim.Native.Nat.{suc, _-_, _≤_, _<_};
+ghost use Prim.Native.Nat.{suc, _+_, _-_, _≤_, _<_};
 ghost use lib.Dec.{eqb};
 ghost use lib.ListN.{length, getD, set};
 ghost use Rattle.rules.specs.Rows.{rowCount};
 ghost use Rattle.rules.specs.Class.{declaration, labeled, class};
 ghost use Rattle.rules.specs.Scope.{isBlock};
 ghost use Rattle.rules.specs.Labels.{isClass, word};
+ghost use Rattle.lists.specs.Listed.{InHand, ListAround};
 ghost use Rattle.tables.specs.Canon.{Tables};
 ghost use Rattle.branches.specs.Walk.{currentLabel, latestIn, Walking, Walked};
 ghost use Rattle.label.specs.Contexts.{latestLabel, ListTable, Listing, Contexts, BlockLinked};
@@ -43,7 +48,7 @@ fn decl_branches(
     labels: &[u16],
     row: RowNumber,
 )
-    requires { ⌜ Listing (now rows) (now pairs) (now bytes) (now lists) ⌝ }
+    requires { ⌜ Listing (now rows) (now pairs) (now bytes) (now lists) (suc (row .0)) ⌝ }
     requires { ⌜ Contexts (now rows) (now pairs) (now bytes) (row .0) (now latests) (now labels) ⌝ }
     requires { ⌜ (row .0 < rowCount (now rows)) × (isClass (now rows) declaration (row .0) ≡ true) ⌝ }
     ensures { λ _. ⌜ ListTable (now (rows .entry)) (latestIn (now (rows .entry)) (now (pairs .entry)) (now (bytes .entry))) (suc (row .0)) (now (latests .exit)) ⌝ }
@@ -64,7 +69,7 @@ fn current_label(
     labels: &[u16],
     row: RowNumber,
 ) -> u16
-    requires { ⌜ Listing (now rows) (now pairs) (now bytes) (now lists) ⌝ }
+    requires { ⌜ Listing (now rows) (now pairs) (now bytes) (now lists) (suc (row .0)) ⌝ }
     requires { ⌜ ListTable (now rows) (latestLabel (now rows) (now pairs) (now bytes)) (row .0) (now labels) ⌝ }
     requires { ⌜ (row .0 < rowCount (now rows)) × (isBlock (class (now rows) (row .0)) ≡ true) ⌝ }
     ensures { λ r. ⌜ r ≡ word (currentLabel (now (rows .entry)) (now (pairs .entry)) (now (bytes .entry)) (row .0)) ⌝ }
@@ -95,7 +100,7 @@ fn block_branches(
     links: &mut [u16],
     row: RowNumber,
 )
-    requires { ⌜ Listing (now rows) (now pairs) (now bytes) (now lists) ⌝ }
+    requires { ⌜ Listing (now rows) (now pairs) (now bytes) (now lists) (suc (row .0)) ⌝ }
     requires { ⌜ ListTable (now rows) (latestLabel (now rows) (now pairs) (now bytes)) (row .0) (now labels) ⌝ }
     requires { ⌜ (row .0 < rowCount (now rows)) × (isBlock (class (now rows) (row .0)) ≡ true) × (rowCount (now rows) ≤ length (now links)) ⌝ }
     ensures { λ _. ⌜ now (links .exit) ≡ set (now (links .entry)) (row .0) (word (currentLabel (now (rows .entry)) (now (pairs .entry)) (now (bytes .entry)) (row .0))) ⌝ }
@@ -126,7 +131,7 @@ fn plain_branches(
     labels: &[u16],
     row: RowNumber,
 )
-    requires { ⌜ Listing (now rows) (now pairs) (now bytes) (now lists) ⌝ }
+    requires { ⌜ Listing (now rows) (now pairs) (now bytes) (now lists) (suc (row .0)) ⌝ }
     requires { ⌜ Contexts (now rows) (now pairs) (now bytes) (row .0) (now latests) (now labels) ⌝ }
     requires { ⌜ (row .0 < rowCount (now rows)) × (rowCount (now rows) ≤ length (now links)) ⌝ }
     ensures links { λ _. ⌜ BlockLinked (now (rows .entry)) (now (pairs .entry)) (now (bytes .entry)) (row .0) (now (links .entry)) (now (links .exit)) ⌝ }
@@ -161,7 +166,7 @@ fn labeled_branches(
     row: RowNumber,
     faults: usize,
 ) -> usize
-    requires { ⌜ Tables (now rows) (now pairs) (now bytes) (now canons) (now declareds) (now lists) ⌝ }
+    requires { ⌜ Tables (now rows) (now pairs) (now bytes) (now canons) (now declareds) (now lists) (suc (row .0)) ⌝ }
     requires { ⌜ Walking (now rows) (now pairs) (now bytes) (row .0) faults (now sheet) (now bindings) (now heads) (now links) ⌝ }
     requires { ⌜ Contexts (now rows) (now pairs) (now bytes) (row .0) (now latests) (now labels) ⌝ }
     requires { ⌜ (row .0 < rowCount (now rows)) × (class (now rows) (row .0) ≡ labeled) ⌝ }
@@ -192,7 +197,15 @@ fn labeled_branches(
     )
 }
 
-// One row. It answers the sheet's row count.
+// What the walk hands on from row to row beside its tables: the sheet's row count, and the list in
+// hand.
+struct Step {
+    faults: usize,
+    list: usize,
+    end: usize,
+}
+
+// One row, with the list around it.
 fn stmt_branches(
     rows: &[u32],
     pairs: &[u32],
@@ -207,18 +220,20 @@ fn stmt_branches(
     latests: &mut [u16],
     labels: &mut [u16],
     row: RowNumber,
+    here: Around,
     faults: usize,
-) -> usize
-    requires { ⌜ Tables (now rows) (now pairs) (now bytes) (now canons) (now declareds) (now lists) ⌝ }
+) -> Step
+    requires { ⌜ Tables (now rows) (now pairs) (now bytes) (now canons) (now declareds) (now lists) (suc (row .0)) ⌝ }
     requires { ⌜ Walking (now rows) (now pairs) (now bytes) (row .0) faults (now sheet) (now bindings) (now heads) (now links) ⌝ }
     requires { ⌜ Contexts (now rows) (now pairs) (now bytes) (row .0) (now latests) (now labels) ⌝ }
-    requires { ⌜ row .0 < rowCount (now rows) ⌝ }
-    ensures walked { λ r. ⌜ Walked (now (rows .entry)) (now (pairs .entry)) (now (bytes .entry)) (suc (row .0)) r (now (sheet .entry)) (now (bindings .entry)) (now (sheet .exit)) (now (bindings .exit)) (now (heads .exit)) (now (links .exit)) ⌝ }
+    requires { ⌜ (row .0 < rowCount (now rows)) × ListAround (now rows) (here .list) (here .end) (row .0) ⌝ }
+    ensures walked { λ r. ⌜ Walked (now (rows .entry)) (now (pairs .entry)) (now (bytes .entry)) (suc (row .0)) (r .faults) (now (sheet .entry)) (now (bindings .entry)) (now (sheet .exit)) (now (bindings .exit)) (now (heads .exit)) (now (links .exit)) ⌝ }
     ensures contexts { λ _. ⌜ Contexts (now (rows .entry)) (now (pairs .entry)) (now (bytes .entry)) (suc (row .0)) (now (latests .exit)) (now (labels .exit)) ⌝ }
+    ensures around { λ r. ⌜ InHand (now (rows .entry)) (r .list) (r .end) (row .0 + 1) ⌝ }
 {
     match rows::kind(rows, row) {
         3 => {
-            return labeled_branches(
+            let more = labeled_branches(
                 rows,
                 pairs,
                 bytes,
@@ -234,9 +249,14 @@ fn stmt_branches(
                 row,
                 faults,
             );
+            Step {
+                faults: more,
+                list: here.list,
+                end: here.end,
+            }
         }
         11 => {
-            return branches::jumps::jump_branches(
+            let more = branches::jumps::jump_branches(
                 rows,
                 pairs,
                 bytes,
@@ -250,22 +270,32 @@ fn stmt_branches(
                 row,
                 faults,
             );
+            Step {
+                faults: more,
+                list: here.list,
+                end: here.end,
+            }
         }
         _ => {
             plain_branches(rows, pairs, bytes, lists, links, latests, labels, row);
-            return faults;
+            let after = list_after(rows, here, row.0);
+            Step {
+                faults,
+                list: after.list,
+                end: after.end,
+            }
         }
     }
 }
 
-// All rows in order. It answers the sheet's row count.
+// All rows in order, each with its list written before it. It answers the sheet's row count.
 pub fn rows_branches(
     rows: &[u32],
     pairs: &[u32],
     bytes: &[u8],
     canons: &[u32],
     declareds: &[u16],
-    lists: &[u16],
+    lists: &mut [u16],
     sheet: &mut [u32],
     bindings: &mut [u32],
     heads: &mut [u16],
@@ -273,16 +303,22 @@ pub fn rows_branches(
     latests: &mut [u16],
     labels: &mut [u16],
 ) -> usize
-    requires { ⌜ Tables (now rows) (now pairs) (now bytes) (now canons) (now declareds) (now lists) ⌝ }
+    requires { ⌜ Tables (now rows) (now pairs) (now bytes) (now canons) (now declareds) (now lists) 0 ⌝ }
     requires { ⌜ Walking (now rows) (now pairs) (now bytes) 0 0 (now sheet) (now bindings) (now heads) (now links) ⌝ }
     requires { ⌜ Contexts (now rows) (now pairs) (now bytes) 0 (now latests) (now labels) ⌝ }
     ensures { λ r. ⌜ Walked (now (rows .entry)) (now (pairs .entry)) (now (bytes .entry)) (rowCount (now (rows .entry))) r (now (sheet .entry)) (now (bindings .entry)) (now (sheet .exit)) (now (bindings .exit)) (now (heads .exit)) (now (links .exit)) ⌝ }
 {
     let count = rows.len() / 5;
+    let mut around = Around {
+        list: 0,
+        end: count,
+    };
     let mut faults = 0;
     let mut r = 0;
     while r < count {
-        faults = stmt_branches(
+        let here = list_at(rows, lists, around, r);
+        lists[r] = here.list as u16;
+        let step = stmt_branches(
             rows,
             pairs,
             bytes,
@@ -296,8 +332,14 @@ pub fn rows_branches(
             latests,
             labels,
             RowNumber(r),
+            here,
             faults,
         );
+        faults = step.faults;
+        around = Around {
+            list: step.list,
+            end: step.end,
+        };
         r += 1;
     }
     faults

@@ -1,10 +1,10 @@
 -- The row that holds items and is kept in hand: where it reaches past r it is the innermost around r,
 -- and where it has ended, the innermost around it takes its place, since a row before it that is not around it has ended before it.
 -- Assumes nothing.
-use mathlib.Core.Path.{_≡_, sym, _∙_}
+use mathlib.Core.Path.{_≡_, refl, sym, _∙_}
 use mathlib.Core.Bool.{Bool, true, false}
 use mathlib.Core.List.{List}
-use mathlib.Core.Logic.{_⊎_, ⊎-elim}
+use mathlib.Core.Logic.{_⊎_, inr, ⊎-elim}
 use Prim.Native.Nat.{ℕ, suc, _+_, _-_, _≤_, _<_}
 use native.Mathlib.Omega.{arith}
 use native.Mathlib.Decide.{decLt, ℕ-discrete}
@@ -17,7 +17,7 @@ use Rattle.rules.specs.Labels.{word}
 use Rattle.rules.proofs.Test.{case-found, clash}
 use Rattle.rules.proofs.Around.{innermost-found, innermost-last, innermost-none}
 use Rattle.rules.proofs.Lists.{found-innermost, none-innermost}
-use Rattle.lists.specs.Listed.{ListedBelow, Open, EndsAt}
+use Rattle.lists.specs.Listed.{ListedBelow, Open, EndsAt, InHand, ListAround}
 
 module _ (w : List ℕ) where
   -- ---- what was found at row r
@@ -108,6 +108,10 @@ module _ (w : List ℕ) where
       | yes h ↦ open-reaches h (omega (arith, q h))
       | no n ↦ let z : o ≡ 0 = omega arith in z ∙ open-empty z
     ]
+
+  -- a row that holds no items leaves the list in hand
+  pub passes-on : (o e r : ℕ) → holdsItems (class w r) ≡ false → ListAround w o e r → InHand w o e (r + 1)
+  passes-on o e r f (l, q) = (open-more o r false (sym f) l o (inr (refl, refl)), q)
 
   -- ---- its end
   pub ends-none : (e : ℕ) → EndsAt w 0 e

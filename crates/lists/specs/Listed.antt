@@ -27,3 +27,11 @@ pub record Open (w : List ℕ) (list r : ℕ) : Type 0 where
 -- `e` is where the row of `list` ends, unless `list` is 0
 abbrev pub EndsAt : List ℕ → ℕ → ℕ → Type 0
 EndsAt w list e = 0 < list → e ≡ end w (list - 1)
+
+-- the list in hand before row r, and where it ends
+abbrev pub InHand : List ℕ → ℕ → ℕ → ℕ → Type 0
+InHand w list e r = Open w list r × EndsAt w list e
+
+-- the list around row r, and where it ends
+abbrev pub ListAround : List ℕ → ℕ → ℕ → ℕ → Type 0
+ListAround w list e r = (list ≡ word (innermost w 0 holdsItems r)) × EndsAt w list e

@@ -13,7 +13,7 @@ use Rattle.rules.specs.Names.{pairCount, isBlank}
 use Rattle.rules.specs.Body.{Body}
 use Rattle.rules.specs.Labels.{isLabel, word}
 use Rattle.canonical.specs.First.{first}
-use Rattle.lists.specs.Listed.{Listed}
+use Rattle.lists.specs.Listed.{ListedBelow}
 
 unfoldable pub canon : List ℕ → List ℕ → ℕ → ℕ
 canon p b n = elim n [ zero ↦ 0 | suc m ↦ elim (isBlank p b (suc m)) [ true ↦ 0 | false ↦ first p b (suc m) ] ]
@@ -40,10 +40,10 @@ pub record DeclaredTable (w p b declareds : List ℕ) : Type 0 where
   pub room : pairCount p < length declareds
   pub at-canon : (c : ℕ) → 0 < c → c ≤ pairCount p → getD declareds c 0 ≡ word (declaredFor w p b c)
 
--- what the walk reads: a well-formed body and its tables
-pub record Tables (w p b : List ℕ) (canons declareds lists : List ℕ) : Type 0 where
+-- what the walk reads: a well-formed body and its tables, with the lists of the rows before x
+pub record Tables (w p b : List ℕ) (canons declareds lists : List ℕ) (x : ℕ) : Type 0 where
   pub body : Body w p b
   pub by-name : CanonTable p b canons
   pub by-canon : DeclaredTable w p b declareds
   pub lists-room : rowCount w ≤ length lists
-  pub listed : Listed w lists
+  pub listed : ListedBelow w lists x

@@ -36,7 +36,7 @@ returns : tie.Need-returns Inv-loop μ-loop
 returns c =
     let s = c .before .before .before .before .before .before .before .before .before in
     let canon-of = c .before .canon-of in
-    no-name (s .pre .0) _ _ (s .pre .1 .1 .0) (canon-of .ensures) (c .if1 .taken)
+    no-name (s .pre .0) _ (s .pre .1 .1 .0) (canon-of .ensures) (c .if1 .taken)
 
 mul-wide : tie.Need-mul-wide Inv-loop μ-loop
 mul-wide c = omega (arith, c .before .before .before .before .before .before .before .before .before .pre .0 .lists-room)
@@ -51,7 +51,7 @@ loop-holds : tie.Need-loop-holds Inv-loop μ-loop
 loop-holds c =
     let s = c .before .before .before .before .before .before .before .before .before .before .before in
     let canon-of = c .before .before .before .canon-of in
-    climb-start (s .pre .0) _ _ (s .pre .1 .1 .0) (canon-of .ensures) _ (c .wide .ensures)
+    climb-start (s .pre .0) _ (s .pre .1 .1 .0) (canon-of .ensures) _ (c .wide .ensures)
 
 sub-l : tie.Need-sub-l Inv-loop μ-loop
 sub-l c = search needs
@@ -61,7 +61,7 @@ kind-requires c κs =
     let s = c .before .before .before .before .before .before .before .before .before .before .before .before .before in
     let canon-of = c .before .before .before .before .before .canon-of in
     let loop = c .before .loop in
-    climb-in (s .pre .0) _ _ (s .pre .1 .1 .0) (canon-of .ensures) _ (loop .inv) (c .loop-test .taken)
+    climb-in (s .pre .0) _ (s .pre .1 .1 .0) (canon-of .ensures) _ (loop .inv) (c .loop-test .taken)
 
 mul-wide-2 : tie.Need-mul-wide-2 Inv-loop μ-loop
 mul-wide-2 c =
@@ -69,7 +69,7 @@ mul-wide-2 c =
     let canon-of = c .before .before .before .before .before .before .before .canon-of in
     let loop = c .before .before .before .loop in
     let loop-test = c .before .before .loop-test in
-    omega (arith, climb-in (s .pre .0) _ _ (s .pre .1 .1 .0) (canon-of .ensures) _ (loop .inv) (loop-test .taken), s .pre .0 .body .most-rows)
+    omega (arith, climb-in (s .pre .0) _ (s .pre .1 .1 .0) (canon-of .ensures) _ (loop .inv) (loop-test .taken), s .pre .0 .body .most-rows)
 
 shared-slice-read-wide-2 : tie.Need-shared-slice-read-wide-2 Inv-loop μ-loop
 shared-slice-read-wide-2 c =
@@ -77,7 +77,7 @@ shared-slice-read-wide-2 c =
     let canon-of = c .before .before .before .before .before .before .before .before .canon-of in
     let loop = c .before .before .before .before .loop in
     let loop-test = c .before .before .before .loop-test in
-    omega (arith, climb-in (s .pre .0) _ _ (s .pre .1 .1 .0) (canon-of .ensures) _ (loop .inv) (loop-test .taken), s .pre .1 .0 .0)
+    omega (arith, climb-in (s .pre .0) _ (s .pre .1 .1 .0) (canon-of .ensures) _ (loop .inv) (loop-test .taken), s .pre .1 .0 .0)
 
 wide-requires-2 : tie.Need-wide-requires-2 Inv-loop μ-loop
 wide-requires-2 c κs = search needs
@@ -94,7 +94,7 @@ canon-of-requires-2 c κs =
     let kind = c .before .before .before .before .kind in
     let if2 = c .before .before .before .if2 in
     let wide2 = c .before .wide2 in
-    let h = label-in (s .pre .0) _ _ (s .pre .1 .1 .0) (canon-of .ensures) _ (loop .inv) (loop-test .taken) _ (kind .ensures) (if2 .taken) (s .args .links .now) (s .pre .1 .0)
+    let h = label-in (s .pre .0) _ (s .pre .1 .1 .0) (canon-of .ensures) _ (loop .inv) (loop-test .taken) _ (kind .ensures) (if2 .taken) (s .args .links .now) (s .pre .1 .0)
     _ (wide2 .ensures) (c .if3 .taken) in
     (h, canon-place (s .pre .0) _ h)
 
@@ -110,7 +110,7 @@ returns-2 c =
     let if3 = c .before .before .if3 in
     let canon-of2 = c .before .canon-of2 in
     let if1 = c .before .before .before .before .before .before .before .before .before .before .before .if1 in
-    climb-found (s .pre .0) _ _ (s .pre .1 .1 .0) (canon-of .ensures) _ (loop .inv) (loop-test .taken) _ (kind .ensures) (if2 .taken) (s .args .links .now) (s .pre .1 .0) _ (wide2 .ensures) (if3 .taken)
+    climb-found (s .pre .0) _ (s .pre .1 .1 .0) (canon-of .ensures) _ (loop .inv) (loop-test .taken) _ (kind .ensures) (if2 .taken) (s .args .links .now) (s .pre .1 .0) _ (wide2 .ensures) (if3 .taken)
     _ (canon-of2 .ensures) (if1 .left) (c .if4 .taken)
 
 mul-wide-3 : tie.Need-mul-wide-3 Inv-loop μ-loop
@@ -119,7 +119,7 @@ mul-wide-3 c =
     let canon-of = c .before .before .before .before .before .before .before .canon-of in
     let loop = c .before .before .before .loop in
     let loop-test = c .before .before .loop-test in
-    omega (arith, climb-in (s .pre .0) _ _ (s .pre .1 .1 .0) (canon-of .ensures) _ (loop .inv) (loop-test .taken), s .pre .0 .body .most-rows)
+    omega (arith, climb-in (s .pre .0) _ (s .pre .1 .1 .0) (canon-of .ensures) _ (loop .inv) (loop-test .taken), s .pre .0 .body .most-rows)
 
 shared-slice-read-wide-3 : tie.Need-shared-slice-read-wide-3 Inv-loop μ-loop
 shared-slice-read-wide-3 c =
@@ -127,7 +127,7 @@ shared-slice-read-wide-3 c =
     let canon-of = c .before .before .before .before .before .before .before .before .canon-of in
     let loop = c .before .before .before .before .loop in
     let loop-test = c .before .before .before .loop-test in
-    omega (arith, climb-in (s .pre .0) _ _ (s .pre .1 .1 .0) (canon-of .ensures) _ (loop .inv) (loop-test .taken), s .pre .0 .lists-room)
+    omega (arith, climb-in (s .pre .0) _ (s .pre .1 .1 .0) (canon-of .ensures) _ (loop .inv) (loop-test .taken), s .pre .0 .lists-room)
 
 wide-requires-3 : tie.Need-wide-requires-3 Inv-loop μ-loop
 wide-requires-3 c κs = search needs
@@ -138,7 +138,7 @@ loop-less c =
     let canon-of = c .before .before .before .before .before .before .before .before .before .canon-of in
     let loop = c .before .before .before .before .before .loop in
     let loop-test = c .before .before .before .before .loop-test in
-    climb-less (s .pre .0) _ _ (s .pre .1 .1 .0) (canon-of .ensures) _ (loop .inv) (loop-test .taken) _ (c .wide3 .ensures)
+    climb-less (s .pre .0) _ (s .pre .1 .1 .0) (canon-of .ensures) _ (loop .inv) (loop-test .taken) _ (c .wide3 .ensures)
 
 loop-again : tie.Need-loop-again Inv-loop μ-loop
 loop-again c =
@@ -150,13 +150,13 @@ loop-again c =
     let kind = c .before .before .before .kind in
     elim (if2 .came) [
       | inl x ↦
-          climb-other (s .pre .0) _ _ (s .pre .1 .1 .0) (canon-of .ensures) _ (loop .inv) (loop-test .taken) _ (kind .ensures) (x .0 .taken) (s .args .links .now) (s .pre .1 .0) _ (x .2 .ensures)
+          climb-other (s .pre .0) _ (s .pre .1 .1 .0) (canon-of .ensures) _ (loop .inv) (loop-test .taken) _ (kind .ensures) (x .0 .taken) (s .args .links .now) (s .pre .1 .0) _ (x .2 .ensures)
           (x .3 .taken) _ (x .4 .ensures) _ (c .wide3 .ensures) (x .5 .left)
       | inr y ↦ elim y [
         | inl x ↦
-            climb-unlabelled (s .pre .0) _ _ (s .pre .1 .1 .0) (canon-of .ensures) _ (loop .inv) (loop-test .taken) _ (kind .ensures) (x .0 .taken) (s .args .links .now) (s .pre .1 .0) _ (x .2 .ensures)
+            climb-unlabelled (s .pre .0) _ (s .pre .1 .1 .0) (canon-of .ensures) _ (loop .inv) (loop-test .taken) _ (kind .ensures) (x .0 .taken) (s .args .links .now) (s .pre .1 .0) _ (x .2 .ensures)
             _ (c .wide3 .ensures) (x .3 .left)
-        | inr x ↦ climb-plain (s .pre .0) _ _ (s .pre .1 .1 .0) (canon-of .ensures) _ (loop .inv) (loop-test .taken) _ _ (c .wide3 .ensures) (kind .ensures) (x .left)
+        | inr x ↦ climb-plain (s .pre .0) _ (s .pre .1 .1 .0) (canon-of .ensures) _ (loop .inv) (loop-test .taken) _ _ (c .wide3 .ensures) (kind .ensures) (x .left)
       ]
     ]
 
@@ -165,7 +165,7 @@ returns-3 c =
     let s = c .before .before .before .before .before .before .before .before .before .before .before .before .before in
     let canon-of = c .before .before .before .before .before .canon-of in
     let loop = c .before .loop in
-    climb-none (s .pre .0) _ _ (s .pre .1 .1 .0) (canon-of .ensures) _ (loop .inv) (c .loop-test .left)
+    climb-none (s .pre .0) _ (s .pre .1 .1 .0) (canon-of .ensures) _ (loop .inv) (c .loop-test .left)
 
 pub enclosing-target-spec : {M : Type 1} → statement M
 enclosing-target-spec =

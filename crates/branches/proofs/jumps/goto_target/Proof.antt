@@ -26,7 +26,7 @@ returns : tie.Need-returns
 returns c =
     let s = c .before .before .before .before .before .before .before .before in
     let canon-of = c .before .canon-of in
-    no-canon (s .pre .0) _ _ (s .pre .1 .0) (canon-of .ensures) (c .if1 .taken)
+    no-canon (s .pre .0) _ (s .pre .1 .0) (canon-of .ensures) (c .if1 .taken)
 
 mul-wide : tie.Need-mul-wide
 mul-wide c =
@@ -49,7 +49,7 @@ returns-2 c =
     let canon-of = c .before .before .before .before .canon-of in
     let if1 = c .before .before .before .if1 in
     let wide = c .before .wide in
-    no-declared (s .pre .0) _ _ (s .pre .1 .0) (canon-of .ensures) (if1 .left) _ (wide .ensures) (c .if2 .taken)
+    no-declared (s .pre .0) _ (s .pre .1 .0) (canon-of .ensures) (if1 .left) _ (wide .ensures) (c .if2 .taken)
 
 sub-label : tie.Need-sub-label
 sub-label c = search needs
@@ -61,7 +61,7 @@ returns-3 c =
     let if1 = c .before .before .before .before .before .if1 in
     let wide = c .before .before .before .wide in
     let if2 = c .before .before .if2 in
-    label-after (s .pre .0) _ _ (s .pre .1 .0) (canon-of .ensures) (if1 .left) _ (wide .ensures) (if2 .left) (c .if3 .taken)
+    label-after (s .pre .0) _ (s .pre .1 .0) (canon-of .ensures) (if1 .left) _ (wide .ensures) (if2 .left) (c .if3 .taken)
 
 mul-wide-2 : tie.Need-mul-wide-2
 mul-wide-2 c = search needs
@@ -81,7 +81,7 @@ returns-4 c =
     let if2 = c .before .before .before .before .before .if2 in
     let if3 = c .before .before .before .if3 in
     let wide2 = c .before .wide2 in
-    no-list (s .pre .0) _ _ (s .pre .1 .0) (canon-of .ensures) (if1 .left) _ (wide .ensures) (if2 .left) (if3 .left) _ (wide2 .ensures) (c .if4 .taken)
+    no-list (s .pre .0) _ (s .pre .1 .0) (canon-of .ensures) (if1 .left) _ (wide .ensures) (if2 .left) (if3 .left) _ (wide2 .ensures) (c .if4 .taken)
 
 sub-l : tie.Need-sub-l
 sub-l c = search needs
@@ -95,7 +95,7 @@ size-requires c κs =
     let if2 = c .before .before .before .before .before .if2 in
     let if3 = c .before .before .before .if3 in
     let wide2 = c .before .wide2 in
-    list-in (s .pre .0) _ _ (s .pre .1 .0) (canon-of .ensures) (if1 .left) _ (wide .ensures) (if2 .left) (if3 .left) _ (wide2 .ensures)
+    list-in (s .pre .0) _ (s .pre .1 .0) (canon-of .ensures) (if1 .left) _ (wide .ensures) (if2 .left) (if3 .left) _ (wide2 .ensures)
 
 add-if5 : tie.Need-add-if5
 add-if5 c =
@@ -109,7 +109,7 @@ add-if5 c =
     let if4 = c .before .if4 in
     omega (
       arith,
-      list-small (s .pre .0) _ _ (s .pre .1 .0) (canon-of .ensures) (if1 .left) _ (wide .ensures) (if2 .left) (if3 .left) _ (wide2 .ensures)
+      list-small (s .pre .0) _ (s .pre .1 .0) (canon-of .ensures) (if1 .left) _ (wide .ensures) (if2 .left) (if3 .left) _ (wide2 .ensures)
           (if4 .left) _ (c .size .ensures),
     )
 
@@ -124,7 +124,7 @@ returns-5 c =
     let wide2 = c .before .before .before .before .wide2 in
     let if4 = c .before .before .before .if4 in
     let size = c .before .before .size in
-    list-ended (s .pre .0) _ _ (s .pre .1 .0) (canon-of .ensures) (if1 .left) _ (wide .ensures) (if2 .left) (if3 .left) _ (wide2 .ensures) (if4 .left) _ (size .ensures) (c .if5 .taken)
+    list-ended (s .pre .0) _ (s .pre .1 .0) (canon-of .ensures) (if1 .left) _ (wide .ensures) (if2 .left) (if3 .left) _ (wide2 .ensures) (if4 .left) _ (size .ensures) (c .if5 .taken)
 
 returns-6 : tie.Need-returns-6
 returns-6 c =
@@ -137,7 +137,7 @@ returns-6 c =
     let wide2 = c .before .before .before .before .wide2 in
     let if4 = c .before .before .before .if4 in
     let size = c .before .before .size in
-    list-around (s .pre .0) _ _ (s .pre .1 .0) (canon-of .ensures) (if1 .left) _ (wide .ensures) (if2 .left) (if3 .left) _ (wide2 .ensures) (if4 .left) _ (size .ensures) (c .if5 .left)
+    list-around (s .pre .0) _ (s .pre .1 .0) (canon-of .ensures) (if1 .left) _ (wide .ensures) (if2 .left) (if3 .left) _ (wide2 .ensures) (if4 .left) _ (size .ensures) (c .if5 .left)
 
 pub goto-target-spec : {M : Type 1} → statement M
 goto-target-spec =

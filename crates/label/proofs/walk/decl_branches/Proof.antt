@@ -19,7 +19,7 @@ context-of-requires : tie.Need-context-of-requires
 context-of-requires c κs =
     let s = c .before .before .before .before .before .before .before .before .before in
     let i = s .pre .1 .1 in
-    declared-list (s .pre .0) _ (i .0) (s .pre .1 .0) (i .1) _ (c .before .wide .ensures)
+    declared-list (s .pre .0) (i .0) (s .pre .1 .0) (i .1) _ (c .before .wide .ensures)
 
 add-declared : tie.Need-add-declared
 add-declared c = search needs
@@ -31,25 +31,25 @@ cast-latests : tie.Need-cast-latests
 cast-latests c =
     let s = c .before .before .before .before .before .before .before .before .before .before .before .before in
     let i = s .pre .1 .1 in
-    omega (arith, declared-fits (s .pre .0) _ (i .0) (s .pre .1 .0) (i .1) _ (c .before .before .before .before .wide .ensures) (c .before .before .context-of .result) _ (c .before .declared .ensures))
+    omega (arith, declared-fits (s .pre .0) (i .0) (s .pre .1 .0) (i .1) _ (c .before .before .before .before .wide .ensures) (c .before .before .context-of .result) _ (c .before .declared .ensures))
 
 sub-latests : tie.Need-sub-latests
 sub-latests c =
     let s = c .before .before .before .before .before .before .before .before .before .before .before .before in
     let i = s .pre .1 .1 in
-    omega (arith, declared-list (s .pre .0) _ (i .0) (s .pre .1 .0) (i .1) _ (c .before .before .before .before .wide .ensures) .0)
+    omega (arith, declared-list (s .pre .0) (i .0) (s .pre .1 .0) (i .1) _ (c .before .before .before .before .wide .ensures) .0)
 
 mul-latests : tie.Need-mul-latests
 mul-latests c =
     let s = c .before .before .before .before .before .before .before .before .before .before .before .before in
     let i = s .pre .1 .1 in
-    omega (arith, declared-list (s .pre .0) _ (i .0) (s .pre .1 .0) (i .1) _ (c .before .before .before .before .wide .ensures) .1)
+    omega (arith, declared-list (s .pre .0) (i .0) (s .pre .1 .0) (i .1) _ (c .before .before .before .before .wide .ensures) .1)
 
 slice-write-latests : tie.Need-slice-write-latests
 slice-write-latests c =
     let s = c .before .before .before .before .before .before .before .before .before .before .before .before in
     let i = s .pre .1 .1 in
-    let l = declared-list (s .pre .0) _ (i .0) (s .pre .1 .0) (i .1) _ (c .before .before .before .before .wide .ensures) in
+    let l = declared-list (s .pre .0) (i .0) (s .pre .1 .0) (i .1) _ (c .before .before .before .before .wide .ensures) in
     omega (arith, l .0, l .2)
 
 same-length : tie.Need-same-length
@@ -59,7 +59,7 @@ returns : tie.Need-returns
 returns c =
     let s = c .before .before .before .before .before .before .before .before .before .before .before .before in
     let i = s .pre .1 .1 in
-    declared (s .pre .0) _ (i .0) (s .pre .1 .0) (i .1) _ (c .before .before .before .before .wide .ensures) (c .before .before .context-of .result) _ (c .before .declared .ensures)
+    declared (s .pre .0) (i .0) (s .pre .1 .0) (i .1) _ (c .before .before .before .before .wide .ensures) (c .before .before .context-of .result) _ (c .before .declared .ensures)
 
 pub decl-branches-spec : {M : Type 1} → statement M
 decl-branches-spec =

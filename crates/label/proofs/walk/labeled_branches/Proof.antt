@@ -18,7 +18,7 @@ returns : tie.Need-returns
 returns c =
     let s = c .before .before .before .before .before .before .before .before .before .before .before .before .before .before in
     let i = s .pre .1 .1 in
-    (labeled-passed (i .1 .0) (s .pre .1 .0) (i .1 .1) (blank (s .pre .0) _ (i .1 .0) (i .1 .1) (i .0) _ (c .before .canon-of .ensures) (c .if1 .taken)), unlabelled (s .pre .0) _ (i .1 .0) (i .1 .1) (i .0) _ (c .before .canon-of .ensures) (c .if1 .taken))
+    (labeled-passed (i .1 .0) (s .pre .1 .0) (i .1 .1) (blank (s .pre .0) (i .1 .0) (i .1 .1) (i .0) _ (c .before .canon-of .ensures) (c .if1 .taken)), unlabelled (s .pre .0) (i .1 .0) (i .1 .1) (i .0) _ (c .before .canon-of .ensures) (c .if1 .taken))
 
 mul-wide : tie.Need-mul-wide
 mul-wide c =
@@ -37,7 +37,7 @@ context-of-requires : tie.Need-context-of-requires
 context-of-requires c κs =
     let s = c .before .before .before .before .before .before .before .before .before .before .before .before .before .before .before .before .before in
     let i = s .pre .1 .1 in
-    label-list (s .pre .0) _ (i .1 .0) (i .1 .1) (i .0) _ (c .before .before .before .before .canon-of .ensures) (c .before .before .before .if1 .left) _ (c .before .wide .ensures)
+    label-list (s .pre .0) (i .1 .0) (i .1 .1) (i .0) _ (c .before .before .before .before .canon-of .ensures) (c .before .before .before .if1 .left) _ (c .before .wide .ensures)
 
 add-labelled : tie.Need-add-labelled
 add-labelled c =
@@ -51,32 +51,32 @@ cast-labels : tie.Need-cast-labels
 cast-labels c =
     let s = c .before .before .before .before .before .before .before .before .before .before .before .before .before .before .before .before .before .before .before .before in
     let i = s .pre .1 .1 in
-    omega (arith, labelled-fits (s .pre .0) _ (i .1 .0) (i .1 .1) (i .0) _ (c .before .before .before .before .before .before .before .canon-of .ensures) (c .before .before .before .before .before .before .if1 .left) _ (c .before .before .before .before .wide .ensures) (c .before .before .context-of .result) _ (c .before .labelled .ensures))
+    omega (arith, labelled-fits (s .pre .0) (i .1 .0) (i .1 .1) (i .0) _ (c .before .before .before .before .before .before .before .canon-of .ensures) (c .before .before .before .before .before .before .if1 .left) _ (c .before .before .before .before .wide .ensures) (c .before .before .context-of .result) _ (c .before .labelled .ensures))
 
 sub-labels : tie.Need-sub-labels
 sub-labels c =
     let s = c .before .before .before .before .before .before .before .before .before .before .before .before .before .before .before .before .before .before .before .before in
     let i = s .pre .1 .1 in
-    omega (arith, label-list (s .pre .0) _ (i .1 .0) (i .1 .1) (i .0) _ (c .before .before .before .before .before .before .before .canon-of .ensures) (c .before .before .before .before .before .before .if1 .left) _ (c .before .before .before .before .wide .ensures) .0)
+    omega (arith, label-list (s .pre .0) (i .1 .0) (i .1 .1) (i .0) _ (c .before .before .before .before .before .before .before .canon-of .ensures) (c .before .before .before .before .before .before .if1 .left) _ (c .before .before .before .before .wide .ensures) .0)
 
 mul-labels : tie.Need-mul-labels
 mul-labels c =
     let s = c .before .before .before .before .before .before .before .before .before .before .before .before .before .before .before .before .before .before .before .before in
     let i = s .pre .1 .1 in
-    omega (arith, label-list (s .pre .0) _ (i .1 .0) (i .1 .1) (i .0) _ (c .before .before .before .before .before .before .before .canon-of .ensures) (c .before .before .before .before .before .before .if1 .left) _ (c .before .before .before .before .wide .ensures) .1)
+    omega (arith, label-list (s .pre .0) (i .1 .0) (i .1 .1) (i .0) _ (c .before .before .before .before .before .before .before .canon-of .ensures) (c .before .before .before .before .before .before .if1 .left) _ (c .before .before .before .before .wide .ensures) .1)
 
 slice-write-labels : tie.Need-slice-write-labels
 slice-write-labels c =
     let s = c .before .before .before .before .before .before .before .before .before .before .before .before .before .before .before .before .before .before .before .before in
     let i = s .pre .1 .1 in
-    let l = label-list (s .pre .0) _ (i .1 .0) (i .1 .1) (i .0) _ (c .before .before .before .before .before .before .before .canon-of .ensures) (c .before .before .before .before .before .before .if1 .left) _ (c .before .before .before .before .wide .ensures) in
+    let l = label-list (s .pre .0) (i .1 .0) (i .1 .1) (i .0) _ (c .before .before .before .before .before .before .before .canon-of .ensures) (c .before .before .before .before .before .before .if1 .left) _ (c .before .before .before .before .wide .ensures) in
     omega (arith, l .0, l .3)
 
 label-branches-requires : tie.Need-label-branches-requires
 label-branches-requires c κs =
     let s = c .before .before .before .before .before .before .before .before .before .before .before .before .before .before .before .before .before .before .before .before .before .before .before in
     let i = s .pre .1 .1 in
-    (s .pre .0, (s .pre .1 .0, ((i .1 .0, labels (s .pre .0) _ (i .1 .0) (i .1 .1) (i .0) _ (c .before .before .before .before .before .before .before .before .before .before .canon-of .ensures) (c .before .before .before .before .before .before .before .before .before .if1 .left) _ (c .before .before .before .before .before .before .before .wide .ensures)), label-latest (s .pre .0) _ (i .1 .0) (i .1 .1) (i .0) _ (c .before .before .before .before .before .before .before .before .before .before .canon-of .ensures) (c .before .before .before .before .before .before .before .before .before .if1 .left) _ (c .before .before .before .before .before .before .before .wide .ensures) (c .before .before .before .before .before .context-of .result) _ (c .before .before .before .before .labelled .ensures) (c .before .before .before .before .before .context-of .ensures .0))))
+    (s .pre .0, (s .pre .1 .0, ((i .1 .0, labels (s .pre .0) (i .1 .0) (i .1 .1) (i .0) _ (c .before .before .before .before .before .before .before .before .before .before .canon-of .ensures) (c .before .before .before .before .before .before .before .before .before .if1 .left) _ (c .before .before .before .before .before .before .before .wide .ensures)), label-latest (s .pre .0) (i .1 .0) (i .1 .1) (i .0) _ (c .before .before .before .before .before .before .before .before .before .before .canon-of .ensures) (c .before .before .before .before .before .before .before .before .before .if1 .left) _ (c .before .before .before .before .before .before .before .wide .ensures) (c .before .before .before .before .before .context-of .result) _ (c .before .before .before .before .labelled .ensures) (c .before .before .before .before .before .context-of .ensures .0))))
 
 same-length : tie.Need-same-length
 same-length c = c .before .before .before .before .before .sheet .given
@@ -94,7 +94,7 @@ returns-2 : tie.Need-returns-2
 returns-2 c =
     let s = c .before .before .before .before .before .before .before .before .before .before .before .before .before .before .before .before .before .before .before .before .before .before .before .before .before .before .before .before .before .before in
     let i = s .pre .1 .1 in
-    (c .before .before .before .before .before .before .label-branches .ensures, labelled (s .pre .0) _ (i .1 .0) (i .1 .1) (i .0) _ (c .before .before .before .before .before .before .before .before .before .before .before .before .before .before .before .before .before .canon-of .ensures) (c .before .before .before .before .before .before .before .before .before .before .before .before .before .before .before .before .if1 .left) _ (c .before .before .before .before .before .before .before .before .before .before .before .before .before .before .wide .ensures) (c .before .before .before .before .before .before .before .before .before .before .before .before .context-of .result) _ (c .before .before .before .before .before .before .before .before .before .before .before .labelled .ensures))
+    (c .before .before .before .before .before .before .label-branches .ensures, labelled (s .pre .0) (i .1 .0) (i .1 .1) (i .0) _ (c .before .before .before .before .before .before .before .before .before .before .before .before .before .before .before .before .before .canon-of .ensures) (c .before .before .before .before .before .before .before .before .before .before .before .before .before .before .before .before .if1 .left) _ (c .before .before .before .before .before .before .before .before .before .before .before .before .before .before .wide .ensures) (c .before .before .before .before .before .before .before .before .before .before .before .before .context-of .result) _ (c .before .before .before .before .before .before .before .before .before .before .before .labelled .ensures))
 
 pub labeled-branches-spec : {M : Type 1} → statement M
 labeled-branches-spec =
