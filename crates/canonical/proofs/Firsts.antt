@@ -60,9 +60,6 @@ module _ (p b : List ℕ) where
   pub first-same : (m n : ℕ) → 0 < m → m ≤ pairCount p → 0 < n → n ≤ pairCount p → first p b m ≡ first p b n → nameBytes p b m ≡ nameBytes p b n
   first-same m n y g z h e = sym (first-bytes m y g) ∙ ap (nameBytes p b) e ∙ first-bytes n z h
 
-  pub first-first : (n : ℕ) → 0 < n → n ≤ pairCount p → first p b (first p b n) ≡ first p b n
-  first-first n z h = same-first (first p b n) n (first-bytes n z h)
-
   -- a name whose bytes no earlier one has is the first itself
   pub first-new : (n : ℕ) → n < pairCount p → ((i : ℕ) → i < n → sameName p b (suc i) (suc n) ≡ false) → first p b (suc n) ≡ suc n
   first-new n h f = first-some (suc n) n (found-lowest (sameAs (suc n)) (pairCount p) n h (bytes-same p b (suc n) (suc n) refl) f)

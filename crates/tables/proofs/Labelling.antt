@@ -64,9 +64,6 @@ module _ {w p b : List ℕ} (body : Body w p b) where
         labels-is w p b 0 g r (numbered-label r hr c (omega arith))
         (bytes-same p b (name w r) (name w g) (same-canon p b (name w r) (name w g) (name-within body r hr) (name-within body g hg) z e))
 
-    pub not-labels : (rowCanon w p b r ≡ rowCanon w p b g → ⊥) → labels w p b 0 g r ≡ false
-    not-labels n = case-of (labels w p b 0 g r) (λ t. absurd (n (labels-canon t .1))) (λ f. f)
-
     -- a label with the number of a name is one of that name
     numbered-labels : 0 < rowCanon w p b g → isNumbered w p b (rowCanon w p b g) r ≡ labels w p b 0 g r
     numbered-labels z = case-of (labels w p b 0 g r)
