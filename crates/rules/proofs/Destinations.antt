@@ -18,7 +18,7 @@ use Rattle.rules.specs.Labels.{isSome, needs, labels, lastInRun, inBlock
 use Rattle.rules.specs.Placing.{endsCase, wellPlaced, badlyPlaced, placing}
 use Rattle.rules.specs.Verdict.{labelOn, refersTo}
 use Rattle.rules.specs.Runner.{breakTo, continueTo, gotoTo}
-use Rattle.rules.specs.Law.{LawfulTarget, LawfulLabel, Lawful, lawful-break, lawful-continue, lawful-goto, AllLawful}
+use Rattle.rules.specs.Law.{LawfulTarget, Lawful, lawful-break, lawful-continue, lawful-goto, AllLawful}
 use Rattle.rules.proofs.Test.{case-of, case-found, clash, and-true}
 use Rattle.rules.proofs.Scan.{lowest-none, highest-found, highest-none}
 use Rattle.rules.proofs.Every.{every, is-one}
@@ -26,8 +26,9 @@ use Rattle.rules.proofs.Nesting.{item-next}
 use Rattle.rules.proofs.ClassRules.{class-rule}
 use Rattle.rules.proofs.Around.{around-true, true-around, Innermost, innermost-found, next-case}
 use Rattle.rules.proofs.Found.{is-some}
-use Rattle.rules.proofs.RowNames.{goto-named}
-use Rattle.rules.proofs.LabelRows.{is-declared, labels-label, label-labels, some-declared}
+use Rattle.rules.proofs.LabelRows.{labels-label}
+use Rattle.rules.proofs.GotoRows.{goto-label}
+use Rattle.rules.proofs.FromLawful.{goto-bound}
 use Rattle.rules.proofs.Terminating.{label-on, refers-innermost, refers-labelled}
 use Rattle.rules.proofs.Lists.{case-parent, parent-innermost}
 use Rattle.rules.proofs.Final.{row-of, child-in, parent-in}
@@ -62,7 +63,7 @@ module _ (w p b : List ℕ) (root : ℕ) where
   pub goto-to : (g s : ℕ) → gotoTo w p b root g ≡ some s → InBody w root s × (class w s ≡ labeled)
   unfolding gotoTo
   goto-to g s e =
-      let (m, u) = is-declared w p b root g s e in
+      let (m, u, i) = goto-label w p b root g s e in
       let d = labels-label w p b root g s m u .0 in
       (d .row, d .labels)
 
@@ -179,16 +180,7 @@ module _ {w p b : List ℕ} (body : Body w p b) (root : ℕ) (l : root < rowCoun
 
     pub gotos : (g : ℕ) → InBody w root g → class w g ≡ goto → (s : ℕ) × (gotoTo w p b root g ≡ some s)
     unfolding gotoTo
-    gotos g i e = from-lawful (lawful .destinations g i (rw e) (goto-named body g (row-of body root l i) e))
-      where
-        of-label : LawfulLabel w p b root g → (s : ℕ) × (gotoTo w p b root g ≡ some s)
-        of-label (r, d, s, x, y) =
-            let (k, f, h) = some-declared w p b root g r (d .row .1) (label-labels w p b root g r d s) in (k, f)
-
-        from-lawful : Lawful w p b root g → (s : ℕ) × (gotoTo w p b root g ≡ some s)
-        from-lawful (lawful-break c t) = absurd (clash (cc))
-        from-lawful (lawful-continue c t) = absurd (clash (cc))
-        from-lawful (lawful-goto c t) = of-label t
+    gotos g i e = goto-bound w p b body root l lawful g (i .0) (i .1) e
 
     pub falls : (g : ℕ) → InBody w root g → class w g ≡ fallthrough → (s : ℕ) × (nextCase w root g ≡ some s)
     unfolding wellPlaced endsCase

@@ -18,6 +18,7 @@ use Rattle.rules.specs.Labels.{
   isLabel,
   labels,
   declared,
+  gotoLabel,
   latestDeclaration,
   labelledBreak,
   binding,
@@ -58,17 +59,17 @@ use Rattle.rules.proofs.SheetRows.{
 
 -- ---- the destination by the branch's class
 module _ {w p b : List ℕ} {root g : ℕ} where
-  of-goto : Lawful w p b root g → class w g ≡ goto → LawfulLabel w p b root g
+  pub of-goto : Lawful w p b root g → class w g ≡ goto → LawfulLabel w p b root g
   of-goto (lawful-break f t) e = absurd (clash (cc))
   of-goto (lawful-continue f t) e = absurd (clash (cc))
   of-goto (lawful-goto f l) e = l
 
-  of-break : Lawful w p b root g → oneOf (break ∷ continue ∷ []) (class w g) ≡ true → LawfulTarget w p b root g
+  pub of-break : Lawful w p b root g → oneOf (break ∷ continue ∷ []) (class w g) ≡ true → LawfulTarget w p b root g
   of-break (lawful-break f t) e = t
   of-break (lawful-continue f t) e = t
   of-break (lawful-goto f l) e = let z : false ≡ true = rw f at e in absurd (clash (cc))
 
-  of-fallthrough : Lawful w p b root g → class w g ≡ fallthrough → ⊥
+  pub of-fallthrough : Lawful w p b root g → class w g ≡ fallthrough → ⊥
   of-fallthrough (lawful-break f t) e = clash (cc)
   of-fallthrough (lawful-continue f t) e = clash (cc)
   of-fallthrough (lawful-goto f l) e = clash (cc)
@@ -144,11 +145,15 @@ module _ (w p b : List ℕ) (body : Body w p b) (root : ℕ) (start : root < row
             ]
       ]
 
+  -- so a goto binds to a label
+  pub goto-bound : (g : ℕ) → root ≤ g → g < end w root → class w g ≡ goto → (d : ℕ) × (gotoLabel w p b root g ≡ some d)
+  goto-bound g h l e = some-goto-label w p b root g h e (not-pending w p b root (end w root) g (no-wait g l))
+
   -- ---- 9
   module _ (g d : ℕ) (row : (root ≤ g) × (g < end w root)) (l : Label w p b root d) (s : sameNames w p b d g ≡ true) where
     goto-binding : class w g ≡ goto → binding w p b root g ≡ suc d
     goto-binding e =
-        let (k, f) = some-goto-label w p b root g (row .0) e (not-pending w p b root (end w root) g (no-wait g (row .1))) in
+        let (k, f) = goto-bound g (row .0) (row .1) e in
         let y = goto-label w p b root g k f in
         let same : k ≡ d = one-label g d k l s (y .0) (y .1) in
         binding-goto w p b root g (branch-label w p b root g (branch-goto (class w g) e)) (row .0) e ∙ rw (f, same)

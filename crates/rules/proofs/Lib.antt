@@ -15,6 +15,7 @@ pub mod Shape
 pub mod Facts
 pub mod Tried
 pub mod Table
+pub mod Lent
 pub mod Each
 pub mod ClassTests
 pub mod Found
@@ -40,6 +41,7 @@ pub mod Lists
 pub mod Destinations
 pub mod RouteSteps
 pub mod RouteLaw
+pub mod RouteEnds
 pub mod Steps
 pub mod Traps
 pub mod RunnerBodies

@@ -1,4 +1,4 @@
--- Routes on small bodies. Seven bodies have an empty sheet, verdict yes and good placing, and a whole route is given of each, so the route law is not empty.
+-- Routes on small bodies. Eight bodies have an empty sheet, verdict yes and good placing, and a whole route is given of each, so the route law is not empty.
 -- Then, for each premise of the route law, a body that lacks only that one and a route of it that ends in a state which is not safe.
 -- Each value is computed.
 -- Assumes nothing.
@@ -9,9 +9,10 @@ use mathlib.Core.List.{List, [], _∷_, _++_}
 use mathlib.Core.Option.{Option, none, some}
 use Prim.Native.Nat.{ℕ, _<_}
 use lib.Dec.{ltb, lit<}
+use lib.ListN.{getD}
 use borrow.Author.Tests.{ltb-true}
 use Rattle.rules.specs.Refusals.{refusal}
-use Rattle.rules.specs.Labels.{Fault, fault, sheet}
+use Rattle.rules.specs.Labels.{Fault, fault, sheet, bindings}
 use Rattle.rules.specs.Placing.{placing}
 use Rattle.rules.specs.Verdict.{verdict}
 use Rattle.rules.specs.Runner.{State, at, stopped, brace, choices, step, Walk, done, go, Route}
@@ -20,6 +21,8 @@ use Rattle.rules.specs.Bodies.{
   pairs,
   bytes,
   body2,
+  body7,
+  body9,
   body10,
   body12,
   breakFromSwitch,
@@ -29,6 +32,9 @@ use Rattle.rules.specs.Bodies.{
   pastSwitch,
   switchGoesOn,
   continueOuter,
+  emptyDefault,
+  breakOfTwo,
+  continueOfTwo,
   emptyIf,
   gotoNowhere,
   forAlone,
@@ -63,7 +69,7 @@ module _ (w : List ℕ) where
   first-step s c cs none f h e rest = absurd (clash (cc))
   first-step s c cs (some t) f h e rest = go c h f (rest t e)
 
-  by-choices : (s : State) (cs : List ℕ) → leadOn s cs ≡ true → Walk w pairs bytes 0 s (along s cs)
+  pub by-choices : (s : State) (cs : List ℕ) → leadOn s cs ≡ true → Walk w pairs bytes 0 s (along s cs)
   by-choices s [] e = done
   by-choices s (c ∷ cs) e =
       let x = and-true (ltb c (choices w pairs bytes 0 s)) (elim (step w pairs bytes 0 s c) [ none ↦ false | some t ↦ leadOn t cs ]) e in
@@ -112,6 +118,28 @@ pub continue-route : Good continueOuter
     × Route continueOuter pairs bytes 0 (at 0 ∷ at 1 ∷ at 2 ∷ at 3 ∷ at 4 ∷ at 5 ∷ at 6 ∷ at 2 ∷ at 3 ∷ at 4 ∷ at 2 ∷ [])
 unfolding computed
 continue-route = ((refl, refl, refl, refl), (refl, by-choices continueOuter (at 0) (0 ∷ 0 ∷ 0 ∷ 0 ∷ 1 ∷ 0 ∷ 0 ∷ 0 ∷ 0 ∷ 0 ∷ []) refl))
+
+-- select { comm: return; default: }; return: by the default, which has no items, after the Select
+pub default-route : Good emptyDefault × Route emptyDefault pairs bytes 0 (at 0 ∷ at 1 ∷ at 5 ∷ at 6 ∷ stopped ∷ [])
+unfolding computed
+default-route = ((refl, refl, refl, refl), (refl, by-choices emptyDefault (at 0) (0 ∷ 1 ∷ 0 ∷ 0 ∷ []) refl))
+
+-- ---- a name that is declared twice
+
+-- { L: return }; goto L; L: return: the goto goes to the second label, which it binds to, and not to the declared one
+pub goto-binds : (step body9 pairs bytes 0 (at 4) 0 ≡ some (at 5)) × (getD (bindings body9 pairs bytes 0) 4 0 ≡ 6)
+unfolding computed
+goto-binds = (refl, refl)
+
+-- goto L; { L: return }: the goto binds to no label, and is stuck
+pub goto-unbound : (choices body7 pairs bytes 0 (at 1) ≡ 1) × (step body7 pairs bytes 0 (at 1) 0 ≡ none)
+unfolding computed
+goto-unbound = (refl, refl)
+
+-- L: for { L: for { break L } }: the break leaves the inner loop, and so goes round the outer one; a continue goes to the inner one
+pub innermost-left : (step breakOfTwo pairs bytes 0 (at 7) 0 ≡ some (at 2)) × (step continueOfTwo pairs bytes 0 (at 7) 0 ≡ some (at 5))
+unfolding computed
+innermost-left = (refl, refl)
 
 -- ---- L: for {}; for { break L }: the break is stuck, since the statement with that label has ended
 pub ended-stuck : (choices body2 pairs bytes 0 (at 6) ≡ 1) × (step body2 pairs bytes 0 (at 6) 0 ≡ none)

@@ -1,7 +1,7 @@
 -- Document 01, "Runner", sentence by sentence: where the runner goes from each kind of row and by which choices.
 -- Each law opens `choices` and `step` at one class; the laws of going on open `climb`, which passes the rows that are not around s and so comes to the parent of s first.
 -- Assumes nothing.
-use mathlib.Core.Path.{_≡_, refl, _∙_}
+use mathlib.Core.Path.{_≡_, refl, ap, _∙_}
 use mathlib.Core.Bool.{Bool, true, false, _&&_, _||_, not}
 use mathlib.Core.Logic.{inl, inr}
 use mathlib.Core.List.{List, [], _∷_}
@@ -51,8 +51,8 @@ use Rattle.rules.specs.Class.{
   following,
   class,
 }
-use Rattle.rules.specs.Scope.{isList, around, innermost, listOf, nextCase}
-use Rattle.rules.specs.Labels.{labels, declared}
+use Rattle.rules.specs.Scope.{isList, around, innermost, listOf, inListOf, nextCase}
+use Rattle.rules.specs.Labels.{word, labels, gotoLabel, binding}
 use Rattle.rules.specs.Verdict.{labelOn, refersTo, anyDefault, hasDefault}
 use Rattle.rules.specs.Runner.{
   State,
@@ -80,10 +80,13 @@ use Rattle.rules.specs.Runner.{
   go,
   Route,
 }
-use Rattle.rules.proofs.Test.{case-of, clash, or-true, or-false, and-true}
+use Rattle.rules.proofs.Test.{case-of, case-found, clash, or-true, or-false, and-true}
 use Rattle.rules.proofs.Scan.{lowest-found, highest-found, highest-last, highest-none}
 use Rattle.rules.proofs.Every.{every, same, same-eq, of-classes, is-class}
 use Rattle.rules.proofs.Details.{of-allowed}
+use Rattle.rules.proofs.LabelRows.{other-label}
+use Rattle.rules.proofs.GotoRows.{goto-label}
+use Rattle.rules.proofs.BindingRows.{binding-goto}
 
 -- ---- what holds at each class of a list holds at a class that is one of them
 abbrev AtEach : (Class → Type 0) → List Class → Type 0
@@ -421,10 +424,20 @@ module _ (w p b : List ℕ) (root r : ℕ) where
       let y = and-true (isLoop (class w s)) (labelOn w p b root r s) (x .1) in
       (x .0, y .0, y .1)
 
-  -- of a goto a row labelled with its name, the first
-  pub goto-labelled : (s : ℕ) → gotoTo w p b root r ≡ some s → labels w p b root r s ≡ true
-  unfolding gotoTo declared
-  goto-labelled s e = lowest-found (labels w p b root r) (end w root) s e .1
+  -- of a goto a row labelled with its name, in a list around it
+  pub goto-labelled : (s : ℕ) → gotoTo w p b root r ≡ some s → (labels w p b root r s ≡ true) × (inListOf w root s r ≡ true)
+  unfolding gotoTo
+  goto-labelled s e = let x = goto-label w p b root r s e in (x .1, x .2)
+
+  -- and so the row that its binding word names; where the word is 0 the runner is stuck
+  pub goto-binding : root ≤ r → class w r ≡ goto → OneWay w p b root r (elim (binding w p b root r) [ zero ↦ none | suc s ↦ some (at s) ])
+  unfolding choices step gotoTo
+  goto-binding h e =
+      let n = other-label w p b root r (λ x. clash (cc)) in
+      let z = binding-goto w p b root r n h e in
+      case-found (gotoLabel w p b root r)
+      (λ s f. let i : binding w p b root r ≡ suc s = z ∙ ap word f in rw (e, i) (refl, λ c. rw f))
+      (λ f. let i : binding w p b root r ≡ 0 = z ∙ ap word f in rw (e, i) (refl, λ c. rw f))
 
   -- of a fallthrough the Case that begins where its own Case c ends, inside the Block k of the switch
   pub fallthrough-case : (c k : ℕ) → listOf w root r ≡ some c → isCase (class w c) ≡ true → innermost w root (oneOf (caseBlock ∷ [])) c ≡ some k

@@ -35,6 +35,7 @@ use Rattle.rules.specs.Bodies.{
   Default,
   Switch,
   Comm,
+  DefaultComm,
   Select,
   For,
   ForCond,
@@ -102,10 +103,17 @@ between = ((refl, refl, refl), refl, (refl, refl, refl), (refl, refl, refl), (re
 abbrev latestItem : List ℕ
 latestItem = rowWords (Block 7 ∷ Define ∷ Goto L ∷ Define ∷ Define ∷ Labeled L 2 ∷ Return ∷ [])
 
--- the latest declaration is the one reported
-pub latest : sheet latestItem pairs bytes 0 ≡ record { code = 3; position = 3; name = L; other = 5 } ∷ []
+-- { goto L }; x := 1; L: return
+abbrev fromBlock : List ℕ
+fromBlock = rowWords (Block 6 ∷ Block 2 ∷ Goto L ∷ Define ∷ Labeled L 2 ∷ Return ∷ [])
+
+-- the latest declaration is the one reported; a goto out of a Block jumps over what stands between in the label's list
+pub latest : (sheet latestItem pairs bytes 0 ≡ record { code = 3; position = 3; name = L; other = 5 } ∷ [])
+    × (refusal fromBlock pairs bytes ≡ none)
+    × (sheet fromBlock pairs bytes 0 ≡ record { code = 3; position = 3; name = L; other = 4 } ∷ [])
+    × (bindings fromBlock pairs bytes 0 ≡ 0 ∷ 0 ∷ 5 ∷ 0 ∷ 5 ∷ 0 ∷ [])
 unfolding computed
-latest = refl
+latest = (refl, refl, refl, refl)
 
 -- { L: return }; L: return; goto L
 abbrev afterRepeated : List Entry
@@ -264,7 +272,7 @@ abbrev leavesSelect : List Entry
 leavesSelect = Block 8 ∷ Select 7 ∷ Block 6 ∷ Comm 5 ∷ If 3 ∷ Block 2 ∷ Break 0 ∷ Return ∷ []
 
 -- of a switch: a Case without items, a default in any place, two defaults, no default, a type switch, a break;
--- of a Select: no default, a Comm without items, a break
+-- of a Select: no default, a Comm without items, a break; a default alone, with and without items, and one beside a Comm
 pub clauses : Marks (Block 4 ∷ Switch 3 ∷ Block 2 ∷ Default 1 ∷ []) [] false
     × Marks (Block 7 ∷ Switch 6 ∷ Block 5 ∷ Default 2 ∷ Return ∷ Case 2 ∷ Return ∷ []) [] true
     × Marks (Block 7 ∷ Switch 6 ∷ Block 5 ∷ Default 2 ∷ Return ∷ Default 2 ∷ Return ∷ []) [] true
@@ -274,8 +282,14 @@ pub clauses : Marks (Block 4 ∷ Switch 3 ∷ Block 2 ∷ Default 1 ∷ []) [] f
     × Marks (Block 5 ∷ Select 4 ∷ Block 3 ∷ Comm 2 ∷ Return ∷ []) [] true
     × Marks (Block 4 ∷ Select 3 ∷ Block 2 ∷ Comm 1 ∷ []) [] false
     × Marks leavesSelect [] false
+    × Marks (Block 5 ∷ Select 4 ∷ Block 3 ∷ DefaultComm 2 ∷ Return ∷ []) [] true
+    × Marks (Block 4 ∷ Select 3 ∷ Block 2 ∷ DefaultComm 1 ∷ []) [] false
+    × Marks (Block 7 ∷ Select 6 ∷ Block 5 ∷ DefaultComm 2 ∷ Return ∷ Comm 2 ∷ Return ∷ []) [] true
 unfolding computed
 clauses = (
+  (refl, refl, refl),
+  (refl, refl, refl),
+  (refl, refl, refl),
   (refl, refl, refl),
   (refl, refl, refl),
   (refl, refl, refl),
@@ -314,7 +328,7 @@ abbrev innerBlock : List Entry
 innerBlock = Block 7 ∷ Switch 6 ∷ Block 5 ∷ Case 3 ∷ Block 2 ∷ Fallthrough ∷ Default 1 ∷ []
 
 -- a labelled branch is never its concern; a continue needs a loop around it;
--- a fallthrough is the last item of its Case, with its labels, and in no Block of its own
+-- a fallthrough is the last item of its Case, with its labels, and in no Block of its own; of two rows badly placed the first is told
 pub places : Places labelledOutside none
     × Places (Block 2 ∷ Break 0 ∷ []) (some 1)
     × Places continueInside none
@@ -322,8 +336,9 @@ pub places : Places labelledOutside none
     × Places labelIncluded none
     × Places notLast (some 4)
     × Places innerBlock (some 5)
+    × Places (Block 4 ∷ Expr ∷ Continue 0 ∷ Break 0 ∷ []) (some 2)
 unfolding computed
-places = ((refl, refl), (refl, refl), (refl, refl), (refl, refl), (refl, refl), (refl, refl), (refl, refl))
+places = ((refl, refl), (refl, refl), (refl, refl), (refl, refl), (refl, refl), (refl, refl), (refl, refl), (refl, refl))
 
 -- ---- verdicts
 

@@ -87,6 +87,9 @@ Switch s = entry 15 0 0 s
 abbrev pub Comm : ℕ → Entry
 Comm s = entry 17 0 0 s
 
+abbrev pub DefaultComm : ℕ → Entry
+DefaultComm s = entry 17 1 0 s
+
 abbrev pub Select : ℕ → Entry
 Select s = entry 18 0 0 s
 
@@ -187,6 +190,17 @@ emptyIf = rowWords (Block 3 ∷ If 2 ∷ Block 1 ∷ [])
 -- goto L
 abbrev pub gotoNowhere : List ℕ
 gotoNowhere = rowWords (Block 2 ∷ Goto L ∷ [])
+
+-- L: for { L: for { break L } }, and the same with continue
+abbrev pub breakOfTwo : List ℕ
+breakOfTwo = rowWords (Block 8 ∷ Labeled L 7 ∷ For 6 ∷ Block 5 ∷ Labeled L 4 ∷ For 3 ∷ Block 2 ∷ Break L ∷ [])
+
+abbrev pub continueOfTwo : List ℕ
+continueOfTwo = rowWords (Block 8 ∷ Labeled L 7 ∷ For 6 ∷ Block 5 ∷ Labeled L 4 ∷ For 3 ∷ Block 2 ∷ Continue L ∷ [])
+
+-- select { comm: return; default: }; return
+abbrev pub emptyDefault : List ℕ
+emptyDefault = rowWords (Block 7 ∷ Select 5 ∷ Block 4 ∷ Comm 2 ∷ Return ∷ DefaultComm 1 ∷ Return ∷ [])
 
 -- a For without its Block, which is refused
 abbrev pub forAlone : List ℕ

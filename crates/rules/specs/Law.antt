@@ -1,9 +1,10 @@
 -- The handbook's law (demand 3), as two statements about every well-formed body. proofs/SheetLaw.antt and proofs/RouteLaw.antt prove them.
+-- Then what the second says of the runner, without `All` and `Safe`; proofs/RouteEnds.antt draws it from the law.
 -- Assumes nothing.
 use mathlib.Core.Path.{_≡_}
 use mathlib.Core.Bool.{true, false}
 use mathlib.Core.Logic.{_⊎_, _≢_, _↔_}
-use mathlib.Core.List.{List, [], _∷_}
+use mathlib.Core.List.{List, [], _∷_, _++_}
 use mathlib.Core.Option.{none, some}
 use Prim.Native.Nat.{ℕ, suc, _<_}
 use Rattle.rules.specs.Rows.{name, InBody}
@@ -14,7 +15,7 @@ use Rattle.rules.specs.Scope.{listOf, inListOf}
 use Rattle.rules.specs.Labels.{sameNames, target, needs, sheet}
 use Rattle.rules.specs.Placing.{placing}
 use Rattle.rules.specs.Verdict.{verdict}
-use Rattle.rules.specs.Runner.{State, stopped, brace, choices, step, Route}
+use Rattle.rules.specs.Runner.{State, at, stopped, brace, choices, step, Route}
 
 module _ (w p b : List ℕ) (root : ℕ) where
   -- ---- the first half
@@ -73,3 +74,25 @@ SheetLaw w p b = WellFormed w p b → (sheet w p b 0 ≡ []) ↔ AllLawful w p b
 abbrev pub RouteLaw : List ℕ → List ℕ → List ℕ → Type 0
 RouteLaw w p b =
     WellFormed w p b → sheet w p b 0 ≡ [] → verdict w p b 0 ≡ true → placing w 0 ≡ none → (l : List State) → Route w p b 0 l → All (Safe w p b 0) l
+
+-- ---- the second half in the demand's words
+
+-- the premises: a well-formed body with an empty sheet, verdict yes and good placing
+pub record Good (w p b : List ℕ) : Type 0 where
+  pub well-formed : WellFormed w p b
+  pub no-fault : sheet w p b 0 ≡ []
+  pub yes : verdict w p b 0 ≡ true
+  pub placed : placing w 0 ≡ none
+
+-- the runner never comes to the closing brace
+abbrev pub NeverBrace : List ℕ → List ℕ → List ℕ → Type 0
+NeverBrace w p b = Good w p b → (l k : List State) → Route w p b 0 (l ++ brace ∷ k) → ⊥
+
+-- at each row of its route some choice is open, and every open choice has a next state
+abbrev pub NeverStuck : List ℕ → List ℕ → List ℕ → Type 0
+NeverStuck w p b = Good w p b → (l k : List State) (r : ℕ) → Route w p b 0 (l ++ at r ∷ k)
+    → (0 < choices w p b 0 (at r)) × ((c : ℕ) → c < choices w p b 0 (at r) → (t : State) × (step w p b 0 (at r) c ≡ some t))
+
+-- a route that can't be made longer ends stopped
+abbrev pub StopsLawfully : List ℕ → List ℕ → List ℕ → Type 0
+StopsLawfully w p b = Good w p b → (l : List State) (s : State) → Route w p b 0 (l ++ s ∷ []) → ((t : State) → Route w p b 0 (l ++ s ∷ t ∷ []) → ⊥) → s ≡ stopped

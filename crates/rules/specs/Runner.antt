@@ -37,7 +37,7 @@ use Rattle.rules.specs.Class.{
   class,
 }
 use Rattle.rules.specs.Scope.{isList, around, innermost, nextCase}
-use Rattle.rules.specs.Labels.{declared}
+use Rattle.rules.specs.Labels.{gotoLabel}
 use Rattle.rules.specs.Verdict.{labelOn, refersTo, hasDefault}
 
 -- a row, stopped, or the closing brace
@@ -107,9 +107,9 @@ module _ (w p b : List ℕ) (root : ℕ) where
     | false ↦ highest (λ s. around w root g s && (isLoop (class w s) && labelOn w p b root g s)) g
   ]
 
-  -- goto goes to its labelled row, the declared one; fallthrough into the next Case
+  -- goto goes to its labelled row, the label that it binds to; fallthrough into the next Case
   unfoldable pub gotoTo : ℕ → Option ℕ
-  gotoTo g = declared w p b root g
+  gotoTo g = gotoLabel w p b root g
 
   -- ---- the choices open at row r, and one step by choice c
 
