@@ -1,14 +1,13 @@
--- Demand 2, first half, for every well-formed body: goscript with A, B and C mended answers as `rules` does, and stock in its two domains; and each law used on a body.
+-- Demand 2, first half, for every well-formed body: goscript with A, B and C mended answers as `rules` does, and stock in its two domains.
 -- Assumes nothing.
 use mathlib.Core.Path.{refl}
 use mathlib.Core.Logic.{inl, inr}
 use mathlib.Core.List.{List}
 use Prim.Native.Nat.{ℕ}
-use Rattle.rules.specs.Bodies.{pairs, bytes, body1, body2, body6, selectInLoop}
+use Rattle.rules.specs.Bodies.{pairs, bytes, body2}
 use Rattle.rules.proofs.Computed.{computed as rulesComputed}
 use Rattle.rules.proofs.Facts.{body}
 use Rattle.goscript.specs.Build.{stock, mendedBuild}
-use Rattle.goscript.specs.Domains.{namesEnded, noneNamesEnded, carriesLabel, holdsLabel, noneLabelled}
 use Rattle.goscript.specs.Equal.{SameLabels, SameVerdict, MendedLaw, StockLabelsLaw, StockVerdictLaw}
 use Rattle.goscript.proofs.WalkedBody.{same-labels}
 use Rattle.goscript.proofs.VerdictMended.{mended-verdict}
@@ -23,23 +22,7 @@ stock-labels-law w p b f d = same-labels stock (body w p b f) (inr d)
 pub stock-verdict-law : (w p b : List ℕ) → StockVerdictLaw w p b
 stock-verdict-law w p b f d = stock-verdict (body w p b f) d
 
--- ---- each on a body that meets its premises
-
--- `L: for {}; for { break L }`, where stock differs
+-- ---- on `L: for {}; for { break L }`, where stock differs; DomainBodies.antt has bodies of stock's domains
 pub mended-body2 : SameLabels mendedBuild body2 pairs bytes × SameVerdict mendedBuild body2 pairs bytes
 unfolding rulesComputed
 mended-body2 = mended-law body2 pairs bytes refl
-
--- `L: for { break L }`, and `goto L; x := 1; L: return`
-pub stock-body1 : SameLabels stock body1 pairs bytes
-unfolding rulesComputed namesEnded noneNamesEnded
-stock-body1 = stock-labels-law body1 pairs bytes refl refl
-
-pub stock-body6 : SameLabels stock body6 pairs bytes
-unfolding rulesComputed namesEnded noneNamesEnded
-stock-body6 = stock-labels-law body6 pairs bytes refl refl
-
--- `for { select { comm: return; comm: } }`
-pub stock-select : SameVerdict stock selectInLoop pairs bytes
-unfolding rulesComputed carriesLabel holdsLabel noneLabelled
-stock-select = stock-verdict-law selectInLoop pairs bytes refl refl

@@ -36,4 +36,5 @@ pub mod LeftJumps
 pub mod LabelsEnd
 pub mod WalkedBody
 pub mod Equal
+pub mod DomainBodies
 pub mod Called

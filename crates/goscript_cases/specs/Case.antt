@@ -30,7 +30,7 @@ both w p b a = record { rows = w; pairs = p; bytes = b; stock = a; mended = a }
 abbrev pub each : List ℕ → List ℕ → List ℕ → Answer → Answer → Case
 each w p b s m = record { rows = w; pairs = p; bytes = b; stock = s; mended = m }
 
-abbrev sameVerdict : Bool → Bool → Bool
+abbrev pub sameVerdict : Bool → Bool → Bool
 sameVerdict v u = elim v [ true ↦ u | false ↦ elim u [ true ↦ false | false ↦ true ] ]
 
 -- the definition answers as that build did
