@@ -1,23 +1,25 @@
 -- What a call answers is told as two numbers: equal answers are told alike. A row badly placed is one of the body's rows, so that 1 more fits a word.
 -- Assumes nothing.
 use mathlib.Core.Path.{_≡_, refl, sym, _∙_, ap}
-use mathlib.Core.Bool.{Bool, true}
-use mathlib.Core.List.{List, []}
+use mathlib.Core.Bool.{Bool, true, false, _&&_}
+use mathlib.Core.List.{List}
 use mathlib.Core.Option.{Option, none, some}
 use Prim.Native.Nat.{ℕ, _+_, _-_, _≤_, _<_}
 use native.Mathlib.Omega.{arith}
+use lib.Dec.{ltb, leb}
 use lib.ListN.{length, take, drop}
+use borrow.Author.Tests.{ltb-true, lt-ltb, leb-true, le-leb, lt-leb}
 use Rattle.rules.specs.Rows.{end}
 use Rattle.rules.specs.Names.{pairCount, offset, len, namesOk, nameBytes}
 use Rattle.rules.specs.Refusals.{refusal}
 use Rattle.rules.specs.Placing.{badlyPlaced, placing}
 use Rattle.rules.specs.Calls.{Answer, refused, answered, labelCall, placingCall, verdictCall}
 use Rattle.rules.proofs.Facts.{body}
-use Rattle.rules.proofs.Pairs.{name-part, ok-pair}
+use Rattle.rules.proofs.Pairs.{ok-pair}
 use Rattle.rules.proofs.Scan.{lowest-found}
-use Rattle.rules.proofs.Test.{clash}
+use Rattle.rules.proofs.Test.{case-of, clash, and-true}
 use Rattle.marking.specs.Marks.{together, marksCall}
-use Rattle.exports.specs.Told.{placedWord, toldMarks}
+use Rattle.exports.specs.Told.{placedWord, toldMarks, toldName}
 
 pub tells : {A : Type 0} (told : A → ℕ × ℕ) {o call : A} {n v : ℕ} → n ≡ told o .0 → v ≡ told o .1 → o ≡ call → (n ≡ told call .0) × (v ≡ told call .1)
 tells told f g e = (f ∙ ap (λ x. told x .0) e, g ∙ ap (λ x. told x .1) e)
@@ -79,12 +81,42 @@ unfolding marksCall
 marks-small w p b s t m e = small-word w p b (m .1) (together-second (labelCall w p b s t .answer) (placingCall w p b) (verdictCall w p b) m e)
 
 -- ---- a name's part
-pub no-part : (b : List ℕ) {part : List ℕ} → part ≡ [] → (take 0 (drop 0 b) ≡ part) × (0 + 0 ≤ length b)
-no-part b e = (sym e, omega arith)
 
-pub name-told : (p b : List ℕ) (n x y : ℕ) → namesOk p b ≡ true → (n ≡ 0 → ⊥) → n ≤ pairCount p → x ≡ offset p (n - 1) → y ≡ len p (n - 1)
-    → (take y (drop x b) ≡ nameBytes p b n) × (x + y ≤ length b)
-name-told p b n x y ok z h e f = (
-  rw (e, f) (sym (name-part p b n ok (omega arith) h)),
-  omega (arith, ok-pair p b ok (n - 1) (omega arith) .within),
-)
+module _ (p b : List ℕ) (n : ℕ) where
+  -- is there such a name?
+  abbrev isName : Bool
+  isName = namesOk p b && (ltb 0 n && leb n (pairCount p))
+
+  named : isName ≡ true → toldName p b n ≡ (offset p (n - 1), len p (n - 1))
+  unfolding toldName
+  named t = rw (t, toldName)
+
+  unnamed : isName ≡ false → toldName p b n ≡ (0, 0)
+  unfolding toldName
+  unnamed t = rw (t, toldName)
+
+  -- the code's tests, one by one
+  pub told-refused : namesOk p b ≡ false → toldName p b n ≡ (0, 0)
+  told-refused e = unnamed (rw e)
+
+  pub told-zero : n ≡ 0 → toldName p b n ≡ (0, 0)
+  told-zero e = unnamed (case-of (namesOk p b) (λ t. rw (t, e)) (λ t. rw t))
+
+  pub told-past : pairCount p < n → toldName p b n ≡ (0, 0)
+  told-past h = unnamed (case-of (namesOk p b) (λ t. rw (t, lt-ltb 0 n (omega arith), lt-leb n (pairCount p) h)) (λ t. rw t))
+
+  pub told-pair : namesOk p b ≡ true → (n ≡ 0 → ⊥) → n ≤ pairCount p → toldName p b n ≡ (offset p (n - 1), len p (n - 1))
+  told-pair ok z h = named (rw (ok, lt-ltb 0 n (omega arith), le-leb n (pairCount p) h))
+
+  -- ---- what is told is the name's bytes, inside the bytes lent
+  pub told-part : take (toldName p b n .1) (drop (toldName p b n .0) b) ≡ nameBytes p b n
+  unfolding nameBytes
+  told-part = case-of isName (λ t. rw (named t, t, nameBytes)) (λ t. rw (unnamed t, t, nameBytes))
+
+  pub told-within : toldName p b n .0 + toldName p b n .1 ≤ length b
+  told-within = case-of isName
+      (λ t.
+      let x = and-true (namesOk p b) (ltb 0 n && leb n (pairCount p)) t in
+      let y = and-true (ltb 0 n) (leb n (pairCount p)) (x .1) in
+      rw (named t) (ok-pair p b (x .0) (n - 1) (omega (arith, ltb-true 0 n (y .0), leb-true n (pairCount p) (y .1))) .within))
+      (λ t. rw (unnamed t) (omega arith))

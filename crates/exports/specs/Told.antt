@@ -1,8 +1,11 @@
 -- An answer as a program in C or Rust gets it: the refusal's number, 0 for none, and the refusal's index or the value.
 -- Assumes nothing.
-use mathlib.Core.Bool.{Bool, true, false}
+use mathlib.Core.Bool.{Bool, true, false, _&&_}
+use mathlib.Core.List.{List}
 use mathlib.Core.Option.{Option, none, some}
-use Prim.Native.Nat.{ℕ, suc}
+use Prim.Native.Nat.{ℕ, suc, _-_}
+use lib.Dec.{ltb, leb}
+use Rattle.rules.specs.Names.{pairCount, offset, len, namesOk}
 use Rattle.rules.specs.Calls.{Answer, refused, answered}
 
 abbrev pub toldRefusal : Option (ℕ × ℕ) → ℕ × ℕ
@@ -36,3 +39,7 @@ toldVerdict (answered v) = (0, verdictWord v)
 abbrev pub toldMarks : ℕ → ℕ → Answer (ℕ × Option ℕ × Bool) → ℕ × ℕ × ℕ × ℕ
 toldMarks placing verdict (refused n i) = (n, i, placing, verdict)
 toldMarks placing verdict (answered m) = (0, m .0, placedWord (m .1), verdictWord (m .2))
+
+-- where a name's bytes start and how many they are: the pair's offset and length; 0 and 0 for number 0, for a number past the last pair, and where 2 or 3 refuses
+unfoldable pub toldName : List ℕ → List ℕ → ℕ → ℕ × ℕ
+toldName p b n = elim (namesOk p b && (ltb 0 n && leb n (pairCount p))) [ true ↦ (offset p (n - 1), len p (n - 1)) | false ↦ (0, 0) ]

@@ -10,14 +10,12 @@ use names::Found;
 use placing::Placing;
 use returns::Verdict;
 ghost use mathlib.Core.Path.{_≡_};
-ghost use Prim.Native.Nat.{_+_, _≤_};
-ghost use lib.ListN.{length, take, drop};
-ghost use Rattle.rules.specs.Names.{nameBytes};
+ghost use Prim.Native.Nat.{_≤_};
 ghost use Rattle.rules.specs.Refusals.{refusal};
 ghost use Rattle.rules.specs.Calls.{placingCall, verdictCall, labelCall};
 ghost use Rattle.names.specs.Place.{place};
 ghost use Rattle.marking.specs.Marks.{marksCall};
-ghost use Rattle.exports.specs.Told.{toldRefusal, toldCount, placedWord, toldPlacing, verdictWord, toldVerdict, toldMarks};
+ghost use Rattle.exports.specs.Told.{toldRefusal, toldCount, placedWord, toldPlacing, verdictWord, toldVerdict, toldMarks, toldName};
 
 fn wide(word: u32) -> usize
     ensures { λ r. ⌜ r ≡ word ⌝ }
@@ -189,7 +187,7 @@ pub extern "C" fn zesthull_marks(
 }
 
 // The bytes of a name, as a part of the caller's own: its length, and where it starts through
-// `offset`.
+// `offset`; 0 and 0 where there is no such name.
 #[no_mangle]
 pub extern "C" fn zesthull_name(
     pairs: &[u32],
@@ -197,8 +195,8 @@ pub extern "C" fn zesthull_name(
     number: usize,
     offset: &mut usize,
 ) -> usize
-    ensures part { λ r. ⌜ take r (drop (now (offset .exit)) (now (bytes .entry))) ≡ nameBytes (now (pairs .entry)) (now (bytes .entry)) number ⌝ }
-    ensures within { λ r. ⌜ now (offset .exit) + r ≤ length (now (bytes .entry)) ⌝ }
+    ensures length { λ r. ⌜ r ≡ toldName (now (pairs .entry)) (now (bytes .entry)) number .1 ⌝ }
+    ensures offset { λ _. ⌜ now (offset .exit) ≡ toldName (now (pairs .entry)) (now (bytes .entry)) number .0 ⌝ }
 {
     *offset = 0;
     if !names::names_ok(pairs, bytes) {
@@ -213,4 +211,17 @@ pub extern "C" fn zesthull_name(
     let at = (number - 1) * 2;
     *offset = wide(pairs[at]);
     wide(pairs[at + 1])
+}
+
+// The version of the calls: this is its one place. CHANGELOG.md says what each version changed.
+const MAJOR: u32 = 0;
+
+const MINOR: u32 = 8;
+
+const PATCH: u32 = 0;
+
+// The version as one number: three digits each for minor and patch.
+#[no_mangle]
+pub extern "C" fn zesthull_version() -> u32 {
+    MAJOR * 1000000 + MINOR * 1000 + PATCH
 }

@@ -1,25 +1,34 @@
 -- Where there is no name the part is empty; else the pair says where it starts and how long it is.
 -- Assumes nothing.
-use mathlib.Core.Path.{sym, _∙_}
-use denote.Ref.{now}
+use mathlib.Core.Path.{_≡_, sym, _∙_, ap}
+use Prim.Native.Nat.{ℕ}
 use borrow.Author.Tests.{not-true, not-false}
-use Rattle.rules.proofs.Pairs.{refused-names, no-name, past-names}
-use Rattle.exports.proofs.Telling.{no-part, name-told}
+use Rattle.exports.proofs.Telling.{told-refused, told-zero, told-past, told-pair}
 use borrow.Author.Needs.{needs}
 use Rattle.exports.proofs.zesthull_name.Statement.{statement}
 use Rattle.exports.proofs.zesthull_name.Tie as tie
+
+abbrev first : ℕ × ℕ → ℕ
+first x = x .0
+
+abbrev second : ℕ × ℕ → ℕ
+second x = x .1
+
+-- 0 and 0
+told : {x : ℕ × ℕ} → x ≡ (0, 0) → (0 ≡ second x) × (0 ≡ first x)
+told e = (ap second (sym e), ap first (sym e))
 
 names-ok-requires : tie.Need-names-ok-requires
 names-ok-requires c κs = search needs
 
 returns : tie.Need-returns
-returns c = no-part (now (c .before .before .before .before .args .bytes)) (refused-names _ _ _ (sym (c .before .names-ok .ensures) ∙ not-true _ (c .if1 .taken)))
+returns c = told (told-refused _ _ _ (sym (c .before .names-ok .ensures) ∙ not-true _ (c .if1 .taken)))
 
 returns-2 : tie.Need-returns-2
-returns-2 c = no-part (now (c .before .before .before .before .before .args .bytes)) (no-name _ _ _ (c .if2 .taken))
+returns-2 c = told (told-zero _ _ _ (c .if2 .taken))
 
 returns-3 : tie.Need-returns-3
-returns-3 c = no-part (now (c .before .before .before .before .before .before .args .bytes)) (past-names _ _ _ (c .if3 .taken))
+returns-3 c = told (told-past _ _ _ (c .if3 .taken))
 
 sub-at : tie.Need-sub-at
 sub-at c = search needs
@@ -51,8 +60,8 @@ wide-requires-2 c κs = search needs
 returns-4 : tie.Need-returns-4
 returns-4 c =
     let k = c .before .before .before .before in
-    name-told _ _ _ _ _ (sym (k .before .before .before .names-ok .ensures) ∙ not-false _ (k .before .before .if1 .left)) (k .before .if2 .left) (k .if3 .left)
-    (c .before .before .wide .ensures) (c .wide2 .ensures)
+    let t = told-pair _ _ _ (sym (k .before .before .before .names-ok .ensures) ∙ not-false _ (k .before .before .if1 .left)) (k .before .if2 .left) (k .if3 .left) in
+    (c .wide2 .ensures ∙ ap second (sym t), c .before .before .wide .ensures ∙ ap first (sym t))
 
 pub zesthull-name-spec : {M : Type 1} → statement M
 zesthull-name-spec =
