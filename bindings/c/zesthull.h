@@ -4,9 +4,9 @@
    A body is its row words (five a row: kind, detail, position, name, size), its pair words (two a
    name: offset, length) and its name bytes, each lent as a pointer and a count.
 
-   Each call returns the number of the refusal, 0 for none, and writes through `value` the refusal's
-   index or the answer. A refusal changes no other memory. A call ends on any words, reads and writes
-   inside the counts given, and keeps no pointer.
+   Each call on a body returns the number of the refusal, 0 for none, and writes through `value` the
+   refusal's index or the answer. A refusal changes no other memory. A call ends on any words, reads
+   and writes inside the counts given, and keeps no pointer.
 
    What the caller owes: a pointer is aligned and not null, also where its count is 0; it leads to as
    many words as its count says; and memory that a call writes overlaps with nothing else lent to it.
@@ -21,6 +21,9 @@
 #ifdef __cplusplus
 extern "C" {
 #endif
+
+/* 0.8.0: major * 1,000,000 + minor * 1,000 + patch. */
+#define ZESTHULL_VERSION 8000
 
 enum zesthull_refusals {
     ZESTHULL_NONE = 0,
@@ -66,10 +69,15 @@ uint32_t zesthull_marks(const uint32_t *rows, size_t row_words,
                         uint32_t *bindings, size_t binding_words,
                         size_t *value, size_t *placing, size_t *verdict);
 
-/* The bytes of a name: returns their count, and writes through `offset` where in `bytes` they start.
-   0 and 0 for number 0, for a number past the last pair, and for pairs or bytes that are refused. */
+/* The bytes of a name: returns the length of the name's pair, and writes the pair's offset, where in
+   `bytes` the name starts, through `offset`. Both are 0 where there is no such name: for number 0,
+   for a number past the last pair, and for pairs or bytes that are refused. */
 size_t zesthull_name(const uint32_t *pairs, size_t pair_words,
                      const uint8_t *bytes, size_t byte_count, size_t number, size_t *offset);
+
+/* The version of the archive linked; equal to ZESTHULL_VERSION where header and archive belong
+   together. */
+uint32_t zesthull_version(void);
 
 #ifdef __cplusplus
 }

@@ -33,6 +33,7 @@ mod exports {
             pairs: *const u32, pair_words: usize, bytes: *const u8, byte_count: usize,
             number: usize, offset: *mut usize,
         ) -> usize;
+        pub fn zesthull_version() -> u32;
     }
 }
 
@@ -94,4 +95,9 @@ pub fn name(pairs: &[u32], bytes: &[u8], number: usize, offset: &mut usize) -> u
     unsafe {
         exports::zesthull_name(pairs, pair_words, bytes.as_ptr(), bytes.len(), number, offset)
     }
+}
+
+#[inline]
+pub fn version() -> u32 {
+    unsafe { exports::zesthull_version() }
 }

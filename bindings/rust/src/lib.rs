@@ -100,6 +100,11 @@ pub fn name<'b>(pairs: &[u32], bytes: &'b [u8], number: usize) -> &'b [u8] {
     &bytes[offset..offset + length]
 }
 
+/// The version of the archive linked: major * 1,000,000 + minor * 1,000 + patch.
+pub fn version() -> u32 {
+    calls::version()
+}
+
 /// The value that a call writes where it refuses nothing; else the refusal.
 fn told(call: impl FnOnce(&mut usize) -> u32) -> Result<usize, Refusal> {
     let mut value = 0;

@@ -3,14 +3,13 @@
 -- Assumes nothing.
 use mathlib.Core.Path.{_≡_, refl, sym, _∙_, ap}
 use mathlib.Core.Bool.{true, false}
-use mathlib.Core.List.{List, [], _∷_, _++_}
+use mathlib.Core.List.{List, [], _∷_}
 use mathlib.Core.Option.{Option, none, some}
 use Prim.Native.Nat.{ℕ, suc, _+_, _*_, _≤_, _<_}
 use native.Mathlib.Omega.{arith}
 use native.Mathlib.Decide.{ℕ-discrete}
-use lib.ListN.{length, getD, take, drop, set, replicate, length-replicate, length-append, length-set, take-append-drop}
+use lib.ListN.{length, getD, take, drop, set, replicate, length-replicate, length-append, length-set}
 use lib.Seq.{ext-getD, length-take-le, getD-take, getD-set-same, getD-set-other, drop-set-lt}
-use borrow.Author.Tests.{lt-ltb, le-ltb}
 use Rattle.rules.specs.Rows.{rowCount, name, end}
 use Rattle.rules.specs.Class.{goto, class}
 use Rattle.rules.specs.Names.{pairCount}
@@ -19,6 +18,7 @@ use Rattle.rules.specs.Body.{Body}
 use Rattle.rules.specs.Labels.{Fault, each, isClass, word, binding, unresolved, unused, sheet as sheetOf, bindings as bindingsOf}
 use Rattle.rules.specs.Calls.{Answer, refused, answered, faultWords, written, tooShort, labelCall}
 use Rattle.rules.proofs.Test.{case-of, clash}
+use Rattle.rules.proofs.Lent.{short-sheet, short-bindings, room, is-written}
 use Rattle.rules.proofs.Scan.{none-highest}
 use Rattle.rules.proofs.ClassTests.{one-is}
 use Rattle.rules.proofs.Every.{is-one}
@@ -204,10 +204,6 @@ answered-from n s t t₁ s′ t′ c x = record {
 abbrev pub Called : (w p b s t : List ℕ) → Answer ℕ → (s′ t′ : List ℕ) → Type 0
 Called w p b s t a s′ t′ = (a ≡ labelCall w p b s t .answer) × ((s′ ≡ labelCall w p b s t .sheet-words) × (t′ ≡ labelCall w p b s t .binding-words))
 
-over : (new old after : List ℕ) (n : ℕ) → n ≡ length new → take n after ≡ new → drop n after ≡ drop n old → after ≡ written new old
-over new old after n e f g =
-    sym (take-append-drop n after) ∙ ap (λ (l : List ℕ). l ++ drop n after) f ∙ ap (λ (l : List ℕ). new ++ l) g ∙ ap (λ (k : ℕ). new ++ drop k old) e
-
 module _ (w p b s t : List ℕ) where
   pub call-refused : (r : ℕ × ℕ) → some r ≡ refusal w p b → Called w p b s t (refused (r .0) (r .1)) s t
   unfolding labelCall
@@ -218,17 +214,11 @@ module _ (w p b s t : List ℕ) where
     unfolding labelCall
     call-short e = rw (← f, e, labelCall) (refl, (refl, refl))
 
-    pub short-sheet : length s < rowCount w * 8 → Called w p b s t (refused 7 0) s t
-    unfolding tooShort
-    short-sheet h = call-short (rw (lt-ltb (length s) (rowCount w * 8) h, tooShort))
+    pub call-short-sheet : length s < rowCount w * 8 → Called w p b s t (refused 7 0) s t
+    call-short-sheet h = call-short (short-sheet w s t h)
 
-    pub short-bindings : rowCount w * 8 ≤ length s → length t < rowCount w → Called w p b s t (refused 7 0) s t
-    unfolding tooShort
-    short-bindings h l = call-short (rw (le-ltb (length s) (rowCount w * 8) h, lt-ltb (length t) (rowCount w) l, tooShort))
-
-    room : rowCount w * 8 ≤ length s → rowCount w ≤ length t → tooShort w s t ≡ false
-    unfolding tooShort
-    room h l = rw (le-ltb (length s) (rowCount w * 8) h, le-ltb (length t) (rowCount w) l, tooShort)
+    pub call-short-bindings : rowCount w * 8 ≤ length s → length t < rowCount w → Called w p b s t (refused 7 0) s t
+    call-short-bindings h l = call-short (short-bindings w s t h l)
 
     call-written : tooShort w s t ≡ false
         → Called w p b s t (answered (length (sheetOf w p b 0))) (written (faultWords (sheetOf w p b 0)) s) (written (bindingsOf w p b 0) t)
@@ -238,12 +228,12 @@ module _ (w p b s t : List ℕ) where
     pub call-answered : (n : ℕ) (s′ t′ : List ℕ) → rowCount w * 8 ≤ length s → rowCount w ≤ length t → Answered w p b n s t s′ t′
         → Called w p b s t (answered n) s′ t′
     call-answered n s′ t′ h l x =
-        let c = call-written (room h l) in
+        let c = call-written (room w s t h l) in
         let y = x .on-sheet in
         let k = length-take-le (rowCount w) t′ (omega (arith, x .bindings-length)) in (
           ap (λ (m : ℕ). answered m) (y .count) ∙ c .0,
           (
-            over (faultWords (sheetOf w p b 0)) s s′ (n * 4) (omega (arith, y .count, words-length (sheetOf w p b 0))) (y .reported) (y .sheet-kept) ∙ c .1 .0,
-            over (bindingsOf w p b 0) t t′ (rowCount w) (sym k ∙ ap length (x .bound)) (x .bound) (x .bindings-kept) ∙ c .1 .1,
+            is-written (faultWords (sheetOf w p b 0)) s s′ (n * 4) (omega (arith, y .count, words-length (sheetOf w p b 0))) (y .reported) (y .sheet-kept) ∙ c .1 .0,
+            is-written (bindingsOf w p b 0) t t′ (rowCount w) (sym k ∙ ap length (x .bound)) (x .bound) (x .bindings-kept) ∙ c .1 .1,
           ),
         )

@@ -1,20 +1,20 @@
--- The file's first bytes decide: its header is the whole file's, so that the counts and the length it says are; and where the counts are within their limits
--- and the length is the one it says, the first bytes are the whole file.
+-- The output from what was read of a file, by the code's tests; and that it is what `marks` prints for the file. The first bytes decide: their header is the whole
+-- file's, so that the counts and the length it says are; and where the counts are within their limits and the length is the one it says, they are the whole file.
 -- Assumes nothing.
-use mathlib.Core.Path.{_≡_, sym, _∙_, ap}
+use mathlib.Core.Path.{_≡_, refl, sym, _∙_, ap}
 use mathlib.Core.Bool.{Bool, true, false, _||_, not}
 use mathlib.Core.List.{List}
-use Prim.Native.Nat.{ℕ, _+_, _≤_, _<_}
+use Prim.Native.Nat.{ℕ, zero, suc, _+_, _≤_, _<_}
 use native.Mathlib.Omega.{arith}
 use native.Mathlib.Decide.{decLt, ℕ-discrete}
 use lib.Dec.{ltb, eqb}
 use lib.ListN.{length, take, length-take}
 use lib.Seq.{getD-take, take-all}
 use borrow.Author.Tests.{ltb-false, eqb-true, lt-ltb, le-ltb, eq-eqb, ne-eqb, not-false}
-use Rattle.rules.proofs.Test.{or-false}
+use Rattle.rules.proofs.Test.{case-of, or-false}
 use Rattle.bodyfile.specs.File.{word, rows, names, bytes, rowWords, pairWords, nameBytes, badFile}
 use Rattle.report.specs.Text.{refusedText, bodyText, marksText}
-use Rattle.report.specs.Limits.{said, badStart, countRefusal}
+use Rattle.report.specs.Limits.{said, badStart, countRefusal, startText}
 use Rattle.report.proofs.Counts.{within, counts-refused}
 
 -- ---- the output
@@ -89,35 +89,62 @@ module _ (f : List ℕ) (m : ℕ) (long : 12 ≤ m) where
       ∙ ap (λ (n : ℕ). byCounts (rows f) n (bytes (take m f))) names-same
       ∙ ap (byCounts (rows f) (names f)) bytes-same
 
-  -- ---- by what the code has found of the first bytes
-  module _ (file : List ℕ) (n : ℕ) (l : length f ≡ n) (e : file ≡ take m f) where
-    bad-is : badStart file n ≡ badFile f
-    bad-is = ap (λ (x : List ℕ). badStart x n) e ∙ ap (badStart (take m f)) (sym l) ∙ start-same
+-- ---- the output from what was read, by the code's tests
+module _ (start : List ℕ) (n : ℕ) where
+  pub text-bad : badStart start n ≡ true → refusedText 0 0 ≡ startText start n
+  unfolding startText
+  text-bad t = rw (t, startText)
 
-    pub prints-bad : badStart file n ≡ true → refusedText 0 0 ≡ marksText f
-    prints-bad t = marks-bad f (sym bad-is ∙ t)
+  module _ (t : badStart start n ≡ false) where
+    pub text-counts : (k : ℕ) → k ≡ countRefusal start → (k ≡ 0 → ⊥) → refusedText k 0 ≡ startText start n
+    unfolding startText
+    text-counts zero e z = absurd (z refl)
+    text-counts (suc k) e z = rw (t, ← e, startText)
 
-    module _ (t : badStart file n ≡ false) where
-      passes : badFile f ≡ false
-      passes = sym bad-is ∙ t
+    module _ (c : 0 ≡ countRefusal start) where
+      pub text-part : (length start ≡ n → ⊥) → refusedText 0 0 ≡ startText start n
+      unfolding startText
+      text-part z = rw (t, ← c, ne-eqb (length start) n z, startText)
 
-      length-said : length f ≡ said f
-      length-said = l ∙ start-passes file n t .1 ∙ ap said e ∙ said-same
+      pub text-whole : length start ≡ n → bodyText (rowWords start) (pairWords start) (nameBytes start) ≡ startText start n
+      unfolding startText
+      text-whole z = rw (t, ← c, eq-eqb (length start) n z, startText)
 
-      pub prints-counts : (k : ℕ) → k ≡ countRefusal file → (k ≡ 0 → ⊥) → refusedText k 0 ≡ marksText f
-      prints-counts k q z = counts-refused f k length-said (q ∙ ap countRefusal e ∙ counts-same) z ∙ marks-body f passes
+-- ---- of a file: its first 52,012 bytes or more, and its length
+module _ (f : List ℕ) (m : ℕ) (all : 52012 ≤ m) where
+  long : 12 ≤ m
+  long = omega arith
 
-      module _ (c : 0 ≡ countRefusal file) (all : 52012 ≤ m) where
-        most : length f ≤ m
-        most =
-            let x = within f (sym (c ∙ ap countRefusal e ∙ counts-same)) in
-            omega (arith, length-said, x .most-rows, x .most-names, x .most-bytes)
+  module _ (good : badFile f ≡ false) where
+    passes : badStart (take m f) (length f) ≡ false
+    passes = start-same f m long ∙ good
 
-        whole : file ≡ f
-        whole = e ∙ take-all m f most
+    length-said : length f ≡ said f
+    length-said = start-passes (take m f) (length f) passes .1 ∙ said-same f m long
 
-        pub never-short : (length file ≡ n → ⊥) → ⊥
-        never-short z = z (ap length whole ∙ l)
+    prints-counts : (countRefusal (take m f) ≡ 0 → ⊥) → startText (take m f) (length f) ≡ marksText f
+    prints-counts z =
+        sym (text-counts (take m f) (length f) passes (countRefusal (take m f)) refl z)
+        ∙ counts-refused f (countRefusal (take m f)) length-said (counts-same f m long) z
+        ∙ marks-body f good
 
-        pub prints-whole : bodyText (rowWords file) (pairWords file) (nameBytes file) ≡ marksText f
-        prints-whole = ap (λ (x : List ℕ). bodyText (rowWords x) (pairWords x) (nameBytes x)) whole ∙ marks-body f passes
+    module _ (c : countRefusal (take m f) ≡ 0) where
+      most : length f ≤ m
+      most =
+          let x = within f (sym (counts-same f m long) ∙ c) in
+          omega (arith, length-said, x .most-rows, x .most-names, x .most-bytes)
+
+      whole : take m f ≡ f
+      whole = take-all m f most
+
+      prints-whole : startText (take m f) (length f) ≡ marksText f
+      prints-whole =
+          sym (text-whole (take m f) (length f) passes (sym c) (ap length whole))
+          ∙ ap (λ (x : List ℕ). bodyText (rowWords x) (pairWords x) (nameBytes x)) whole
+          ∙ marks-body f good
+
+  -- they give what `marks` prints for the file
+  pub of-whole : startText (take m f) (length f) ≡ marksText f
+  of-whole = case-of (badFile f)
+      (λ t. sym (text-bad (take m f) (length f) (start-same f m long ∙ t)) ∙ marks-bad f t)
+      (λ t. elim (ℕ-discrete (countRefusal (take m f)) 0) [ yes c ↦ prints-whole t c | no z ↦ prints-counts t z ])

@@ -9,14 +9,14 @@ use Prim.Native.Nat.{ℕ, _+_, _*_, _/_, _≤_}
 use native.Mathlib.Omega.{arith}
 use lib.ListN.{length, take, drop, replicate, length-append, length-replicate}
 use lib.Seq.{take-at}
-use borrow.Author.Tests.{le-ltb}
-use Rattle.rules.specs.Rows.{rowCount, end}
+use Rattle.rules.specs.Rows.{end}
 use Rattle.rules.specs.Refusals.{refusal}
 use Rattle.rules.specs.Labels.{binding, sheet, bindings}
 use Rattle.rules.specs.Placing.{placing}
 use Rattle.rules.specs.Verdict.{verdict}
 use Rattle.rules.specs.Calls.{Answer, refused, answered, faultWords, tooShort, labelCall, placingCall, verdictCall}
 use Rattle.rules.proofs.Facts.{body}
+use Rattle.rules.proofs.Lent.{room as has-room}
 use Rattle.rules.proofs.Test.{clash}
 use Rattle.tables.proofs.Labelling.{body-end}
 use Rattle.branches.proofs.WalkFaults.{words-length}
@@ -137,9 +137,5 @@ module _ (w p b : List ℕ) where
 
 -- ---- lent words that are 0, with room for 2,000 rows
 pub enough : (w : List ℕ) (m n : ℕ) → length w ≤ 10000 → 16000 ≤ m → 2000 ≤ n → tooShort w (replicate m 0) (replicate n 0) ≡ false
-unfolding tooShort
-enough w m n h k l = rw (
-  le-ltb (length {A = ℕ} (replicate m 0)) (rowCount w * 8) (omega (arith, length-replicate {A = ℕ} m 0)),
-  le-ltb (length {A = ℕ} (replicate n 0)) (rowCount w) (omega (arith, length-replicate {A = ℕ} n 0)),
-  tooShort,
-)
+enough w m n h k l =
+    has-room w (replicate m 0) (replicate n 0) (omega (arith, length-replicate {A = ℕ} m 0)) (omega (arith, length-replicate {A = ℕ} n 0))

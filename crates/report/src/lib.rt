@@ -5,15 +5,15 @@ pub mod text;
 use marking::Marking;
 use marking::Marks;
 ghost use mathlib.Core.Path.{_≡_};
-ghost use mathlib.Core.List.{List, _++_};
-ghost use Prim.Native.Nat.{ℕ, _*_, _≤_};
+ghost use mathlib.Core.List.{_++_};
+ghost use Prim.Native.Nat.{_*_, _≤_};
 ghost use lib.ListN.{length as lengthOf, take};
 ghost use Rattle.io.specs.Counts.{Counts};
 ghost use Rattle.bodyfile.specs.File.{rowWords, pairWords, nameBytes};
 ghost use Rattle.names.specs.Place.{place};
-ghost use Rattle.report.specs.Text.{bindsText, placedText, verdictText, bodyText, marksText};
+ghost use Rattle.report.specs.Text.{bindsText, placedText, verdictText, bodyText};
 ghost use Rattle.report.specs.Lines.{sheetLines};
-ghost use Rattle.report.specs.Limits.{said, badStart, countRefusal, Within};
+ghost use Rattle.report.specs.Limits.{said, badStart, countRefusal, Within, startText};
 
 // The longest file of a body that isn't refused for its counts: 2,000 rows, 500 names, 8,000 bytes.
 pub const LONGEST: usize = 52012;
@@ -120,7 +120,7 @@ fn count_refusal(file: &[u8]) -> u32
 // The output for the file of a body, of which `file` is the whole, or the first 52,012 bytes where
 // it is longer; `length` is the length of the whole.
 pub fn report(file: &[u8], length: u64, out: &mut [u8; ROOM]) -> usize
-    ensures text { λ r. ⌜ ((f : List ℕ) → lengthOf f ≡ length → now (file .entry) ≡ take 52012 f → take r (now (out .exit)) ≡ marksText f) ⌝ }
+    ensures text { λ r. ⌜ take r (now (out .exit)) ≡ startText (now (file .entry)) length ⌝ }
     ensures counts { λ r. ⌜ Counts r (now (out .exit)) ⌝ }
 {
     if bad_start(file, length) {
@@ -130,8 +130,7 @@ pub fn report(file: &[u8], length: u64, out: &mut [u8; ROOM]) -> usize
     if refusal != 0 {
         return lines::refused_text(refusal, 0, out);
     }
-    // A file within the limits is no longer than 52,012 bytes, so `file` is the whole of it: this is
-    // for a caller that lends something else.
+    // Never so of a file's first 52,012 bytes: a file within the limits is no longer.
     if file.len() as u64 != length {
         return lines::refused_text(0, 0, out);
     }

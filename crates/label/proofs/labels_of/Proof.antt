@@ -3,7 +3,7 @@
 use mathlib.Core.Path.{sym}
 use borrow.Author.Needs.{needs}
 use Rattle.rules.proofs.Facts.{body}
-use Rattle.label.proofs.CallRows.{short-sheet, short-bindings, call-answered}
+use Rattle.label.proofs.CallRows.{call-short-sheet, call-short-bindings, call-answered}
 use Rattle.label.proofs.labels_of.Statement.{statement}
 use Rattle.label.proofs.labels_of.Tie as tie
 
@@ -11,10 +11,10 @@ mul-if1 : tie.Need-mul-if1
 mul-if1 c = search needs
 
 returns : tie.Need-returns
-returns c = short-sheet _ _ _ _ _ (sym (c .before .before .before .before .before .before .pre)) (c .if1 .taken)
+returns c = call-short-sheet _ _ _ _ _ (sym (c .before .before .before .before .before .before .pre)) (c .if1 .taken)
 
 returns-2 : tie.Need-returns-2
-returns-2 c = short-bindings _ _ _ _ _ (sym (c .before .before .before .before .before .before .before .pre)) (c .before .if1 .left) (c .if2 .taken)
+returns-2 c = call-short-bindings _ _ _ _ _ (sym (c .before .before .before .before .before .before .before .pre)) (c .before .if1 .left) (c .if2 .taken)
 
 faults-requires : tie.Need-faults-requires
 faults-requires c κs = (body _ _ _ (c .before .before .before .before .before .before .before .before .before .pre), (c .before .before .before .if1 .left, c .before .before .if2 .left))

@@ -1,9 +1,9 @@
--- The first bytes decide what is refused; what is not refused they are the whole of.
+-- Each way out is one of the definition's.
 -- Assumes nothing.
 use mathlib.Core.Path.{sym, _∙_}
 use native.Mathlib.Omega.{arith}
 use Rattle.report.proofs.Counts.{within}
-use Rattle.report.proofs.Files.{start-passes, prints-bad, prints-counts, prints-whole, never-short}
+use Rattle.report.proofs.Files.{start-passes, text-bad, text-counts, text-part, text-whole}
 use borrow.Author.Needs.{needs}
 use Rattle.report.proofs.report.Statement.{statement}
 use Rattle.report.proofs.report.Tie as tie
@@ -17,7 +17,7 @@ refused-text-requires c κs = search needs
 returns : tie.Need-returns
 returns c =
     let t = c .refused-text .ensures in
-    (λ f l e. t .0 ∙ prints-bad f 52012 (omega arith) _ _ l e (sym (c .before .before .before .bad-start .ensures) ∙ c .before .before .if1 .taken), t .1)
+    (t .0 ∙ text-bad _ _ (sym (c .before .before .before .bad-start .ensures) ∙ c .before .before .if1 .taken), t .1)
 
 count-refusal-requires : tie.Need-count-refusal-requires
 count-refusal-requires c κs = start-passes _ _ (sym (c .before .bad-start .ensures) ∙ c .if1 .left) .0
@@ -28,10 +28,8 @@ refused-text-requires-2 c κs = search needs
 returns-2 : tie.Need-returns-2
 returns-2 c =
     let t = c .refused-text2 .ensures in
-    let s = sym (c .before .before .before .before .before .bad-start .ensures) ∙ c .before .before .before .before .if1 .left in (
-      λ f l e. t .0 ∙ prints-counts f 52012 (omega arith) _ _ l e s _ (c .before .before .before .count-refusal .ensures) (c .before .before .if2 .taken),
-      t .1,
-    )
+    let s = sym (c .before .before .before .before .before .bad-start .ensures) ∙ c .before .before .before .before .if1 .left in
+    (t .0 ∙ text-counts _ _ s _ (c .before .before .before .count-refusal .ensures) (c .before .before .if2 .taken), t .1)
 
 refused-text-requires-3 : tie.Need-refused-text-requires-3
 refused-text-requires-3 c κs = search needs
@@ -40,10 +38,8 @@ returns-3 : tie.Need-returns-3
 returns-3 c =
     let t = c .refused-text3 .ensures in
     let s = sym (c .before .before .before .before .before .before .bad-start .ensures) ∙ c .before .before .before .before .before .if1 .left in
-    let z = sym (c .before .before .before .if2 .left) ∙ c .before .before .before .before .count-refusal .ensures in (
-      λ f l e. absurd (never-short f 52012 (omega arith) _ _ l e s z (omega arith) (c .before .before .if3 .taken)),
-      t .1,
-    )
+    let z = sym (c .before .before .before .if2 .left) ∙ c .before .before .before .before .count-refusal .ensures in
+    (t .0 ∙ text-part _ _ s z (c .before .before .if3 .taken), t .1)
 
 file-text-requires : tie.Need-file-text-requires
 file-text-requires c κs =
@@ -56,7 +52,7 @@ returns-4 c =
     let t = c .file-text .ensures in
     let s = sym (c .before .before .before .before .before .before .bad-start .ensures) ∙ c .before .before .before .before .before .if1 .left in
     let z = sym (c .before .before .before .if2 .left) ∙ c .before .before .before .before .count-refusal .ensures in
-    (λ f l e. t .0 ∙ prints-whole f 52012 (omega arith) _ _ l e s z (omega arith), t .1)
+    (t .0 ∙ text-whole _ _ s z (c .before .before .if3 .left), t .1)
 
 pub report-spec : {M : Type 1} → statement M
 report-spec =
