@@ -1,0 +1,470 @@
+//! Bodies with the answers that document 01 gives them. The position of row r is 10 * (r + 1).
+
+use super::{Answer, Words};
+
+pub struct Case {
+    pub text: &'static str,
+    pub rows: &'static [[u32; 5]],
+    pub names: &'static [&'static str],
+    pub sheet: &'static [[u32; 4]],
+    pub bindings: &'static [u32],
+    pub placing: Option<usize>,
+    pub verdict: bool,
+}
+
+impl Case {
+    pub fn words(&self) -> Words {
+        Words::new(self.rows, self.names)
+    }
+
+    pub fn answer(&self) -> Answer<'static> {
+        let Case { sheet, bindings, placing, verdict, .. } = *self;
+        Answer { sheet, bindings, placing, verdict }
+    }
+}
+
+/// The table of document 01, in its order.
+pub const TABLE: [Case; 13] = [
+    Case {
+        text: "L: for { break L }",
+        rows: &[[12, 0, 10, 0, 5], [3, 0, 20, 1, 4], [19, 0, 30, 0, 3], [12, 0, 40, 0, 2], [11, 0, 50, 1, 1]],
+        names: &["L"],
+        sheet: &[],
+        bindings: &[0, 2, 0, 0, 2],
+        placing: None,
+        verdict: false,
+    },
+    Case {
+        text: "L: for {} for { break L }",
+        rows: &[
+            [12, 0, 10, 0, 7], [3, 0, 20, 1, 3], [19, 0, 30, 0, 2], [12, 0, 40, 0, 1], [19, 0, 50, 0, 3],
+            [12, 0, 60, 0, 2], [11, 0, 70, 1, 1],
+        ],
+        names: &["L"],
+        sheet: &[[4, 70, 1, 0], [9, 20, 1, 0]],
+        bindings: &[0, 2, 0, 0, 0, 0, 0],
+        placing: None,
+        verdict: true,
+    },
+    Case {
+        text: "L: for { M: for { break L } }",
+        rows: &[
+            [12, 0, 10, 0, 8], [3, 0, 20, 1, 7], [19, 0, 30, 0, 6], [12, 0, 40, 0, 5], [3, 0, 50, 2, 4],
+            [19, 0, 60, 0, 3], [12, 0, 70, 0, 2], [11, 0, 80, 1, 1],
+        ],
+        names: &["L", "M"],
+        sheet: &[[9, 50, 2, 0]],
+        bindings: &[0, 2, 0, 0, 5, 0, 0, 2],
+        placing: None,
+        verdict: false,
+    },
+    Case {
+        text: "L: for { for { break } }",
+        rows: &[
+            [12, 0, 10, 0, 7], [3, 0, 20, 1, 6], [19, 0, 30, 0, 5], [12, 0, 40, 0, 4], [19, 0, 50, 0, 3],
+            [12, 0, 60, 0, 2], [11, 0, 70, 0, 1],
+        ],
+        names: &["L"],
+        sheet: &[[9, 20, 1, 0]],
+        bindings: &[0, 2, 0, 0, 0, 0, 0],
+        placing: None,
+        verdict: true,
+    },
+    Case {
+        text: "for { M: for { break M } }",
+        rows: &[
+            [12, 0, 10, 0, 7], [19, 0, 20, 0, 6], [12, 0, 30, 0, 5], [3, 0, 40, 1, 4], [19, 0, 50, 0, 3],
+            [12, 0, 60, 0, 2], [11, 0, 70, 1, 1],
+        ],
+        names: &["M"],
+        sheet: &[],
+        bindings: &[0, 0, 0, 4, 0, 0, 4],
+        placing: None,
+        verdict: true,
+    },
+    Case {
+        text: "goto L; x := 1; L: return",
+        rows: &[[12, 0, 10, 0, 5], [11, 2, 20, 1, 1], [7, 1, 30, 0, 1], [3, 0, 40, 1, 2], [10, 0, 50, 0, 1]],
+        names: &["L"],
+        sheet: &[[3, 20, 1, 30]],
+        bindings: &[0, 4, 0, 4, 0],
+        placing: None,
+        verdict: true,
+    },
+    Case {
+        text: "goto L; { L: return }",
+        rows: &[[12, 0, 10, 0, 5], [11, 2, 20, 1, 1], [12, 0, 30, 0, 3], [3, 0, 40, 1, 2], [10, 0, 50, 0, 1]],
+        names: &["L"],
+        sheet: &[[7, 20, 1, 0]],
+        bindings: &[0, 0, 0, 4, 0],
+        placing: None,
+        verdict: true,
+    },
+    Case {
+        text: "goto _; _: return",
+        rows: &[[12, 0, 10, 0, 4], [11, 2, 20, 1, 1], [3, 0, 30, 1, 2], [10, 0, 40, 0, 1]],
+        names: &["_"],
+        sheet: &[[8, 20, 1, 0]],
+        bindings: &[0, 0, 0, 0],
+        placing: None,
+        verdict: true,
+    },
+    Case {
+        text: "{ L: return }; goto L; L: return",
+        rows: &[
+            [12, 0, 10, 0, 7], [12, 0, 20, 0, 3], [3, 0, 30, 1, 2], [10, 0, 40, 0, 1], [11, 2, 50, 1, 1],
+            [3, 0, 60, 1, 2], [10, 0, 70, 0, 1],
+        ],
+        names: &["L"],
+        sheet: &[[1, 60, 1, 0], [2, 30, 1, 0], [9, 30, 1, 0]],
+        bindings: &[0, 0, 3, 0, 6, 0, 0],
+        placing: None,
+        verdict: true,
+    },
+    Case {
+        text: "no items",
+        rows: &[[12, 0, 10, 0, 1]],
+        names: &[],
+        sheet: &[],
+        bindings: &[0],
+        placing: None,
+        verdict: false,
+    },
+    Case {
+        text: "select {}",
+        rows: &[[12, 0, 10, 0, 3], [18, 0, 20, 0, 2], [12, 0, 30, 0, 1]],
+        names: &[],
+        sheet: &[],
+        bindings: &[0, 0, 0],
+        placing: None,
+        verdict: true,
+    },
+    Case {
+        text: "switch {}",
+        rows: &[[12, 0, 10, 0, 3], [15, 0, 20, 0, 2], [12, 0, 30, 0, 1]],
+        names: &[],
+        sheet: &[],
+        bindings: &[0, 0, 0],
+        placing: None,
+        verdict: false,
+    },
+    Case {
+        text: "switch { default: fallthrough }",
+        rows: &[[12, 0, 10, 0, 5], [15, 0, 20, 0, 4], [12, 0, 30, 0, 3], [14, 1, 40, 0, 2], [11, 3, 50, 0, 1]],
+        names: &[],
+        sheet: &[],
+        bindings: &[0, 0, 0, 0, 0],
+        placing: Some(4),
+        verdict: true,
+    },
+];
+
+/// Bodies for the label call.
+pub const LABELS: [Case; 16] = [
+    Case {
+        text: "{ L: return }; goto L; L: return, three numbers for one name",
+        rows: &[
+            [12, 0, 10, 0, 7], [12, 0, 20, 0, 3], [3, 0, 30, 1, 2], [10, 0, 40, 0, 1], [11, 2, 50, 2, 1],
+            [3, 0, 60, 3, 2], [10, 0, 70, 0, 1],
+        ],
+        names: &["L", "L", "L"],
+        sheet: &[[1, 60, 3, 0], [2, 30, 1, 0], [9, 30, 1, 0]],
+        bindings: &[0, 0, 3, 0, 6, 0, 0],
+        placing: None,
+        verdict: true,
+    },
+    Case {
+        text: "L: ; L: ; goto L",
+        rows: &[
+            [12, 0, 10, 0, 6], [3, 0, 20, 1, 2], [2, 0, 30, 0, 1], [3, 0, 40, 1, 2], [2, 0, 50, 0, 1],
+            [11, 2, 60, 1, 1],
+        ],
+        names: &["L"],
+        sheet: &[[1, 40, 1, 0], [2, 20, 1, 0]],
+        bindings: &[0, 2, 0, 0, 0, 2],
+        placing: None,
+        verdict: true,
+    },
+    Case {
+        text: "goto L; var x int; x := 1; goto L; L: return",
+        rows: &[
+            [12, 0, 10, 0, 7], [11, 2, 20, 1, 1], [1, 1, 30, 0, 1], [7, 1, 40, 0, 1], [11, 2, 50, 1, 1],
+            [3, 0, 60, 1, 2], [10, 0, 70, 0, 1],
+        ],
+        names: &["L"],
+        sheet: &[[3, 20, 1, 40]],
+        bindings: &[0, 6, 0, 0, 6, 6, 0],
+        placing: None,
+        verdict: true,
+    },
+    Case {
+        text: "goto L; M: x := 1; L: return",
+        rows: &[
+            [12, 0, 10, 0, 6], [11, 2, 20, 1, 1], [3, 0, 30, 2, 2], [7, 1, 40, 0, 1], [3, 0, 50, 1, 2],
+            [10, 0, 60, 0, 1],
+        ],
+        names: &["L", "M"],
+        sheet: &[[3, 20, 1, 40], [9, 30, 2, 0]],
+        bindings: &[0, 5, 3, 0, 5, 0],
+        placing: None,
+        verdict: true,
+    },
+    Case {
+        text: "{ goto L }; L: return",
+        rows: &[[12, 0, 10, 0, 5], [12, 0, 20, 0, 2], [11, 2, 30, 1, 1], [3, 0, 40, 1, 2], [10, 0, 50, 0, 1]],
+        names: &["L"],
+        sheet: &[],
+        bindings: &[0, 0, 4, 4, 0],
+        placing: None,
+        verdict: true,
+    },
+    Case {
+        text: "goto B; goto A; { A: ; }",
+        rows: &[
+            [12, 0, 10, 0, 6], [11, 2, 20, 1, 1], [11, 2, 30, 2, 1], [12, 0, 40, 0, 3], [3, 0, 50, 2, 2],
+            [2, 0, 60, 0, 1],
+        ],
+        names: &["B", "A"],
+        sheet: &[[8, 20, 1, 0], [7, 30, 2, 0]],
+        bindings: &[0, 0, 0, 0, 5, 0],
+        placing: None,
+        verdict: false,
+    },
+    Case {
+        text: "L: { break L }",
+        rows: &[[12, 0, 10, 0, 4], [3, 0, 20, 1, 3], [12, 0, 30, 0, 2], [11, 0, 40, 1, 1]],
+        names: &["L"],
+        sheet: &[[4, 40, 1, 0], [9, 20, 1, 0]],
+        bindings: &[0, 2, 0, 0],
+        placing: None,
+        verdict: false,
+    },
+    Case {
+        text: "L: M: for { break L }",
+        rows: &[
+            [12, 0, 10, 0, 6], [3, 0, 20, 1, 5], [3, 0, 30, 2, 4], [19, 0, 40, 0, 3], [12, 0, 50, 0, 2],
+            [11, 0, 60, 1, 1],
+        ],
+        names: &["L", "M"],
+        sheet: &[[4, 60, 1, 0], [9, 20, 1, 0], [9, 30, 2, 0]],
+        bindings: &[0, 2, 3, 0, 0, 0],
+        placing: None,
+        verdict: true,
+    },
+    Case {
+        text: "L: M: for { break M }",
+        rows: &[
+            [12, 0, 10, 0, 6], [3, 0, 20, 1, 5], [3, 0, 30, 2, 4], [19, 0, 40, 0, 3], [12, 0, 50, 0, 2],
+            [11, 0, 60, 2, 1],
+        ],
+        names: &["L", "M"],
+        sheet: &[[9, 20, 1, 0]],
+        bindings: &[0, 2, 3, 0, 0, 3],
+        placing: None,
+        verdict: false,
+    },
+    Case {
+        text: "L: switch { default: continue L }",
+        rows: &[
+            [12, 0, 10, 0, 6], [3, 0, 20, 1, 5], [15, 0, 30, 0, 4], [12, 0, 40, 0, 3], [14, 1, 50, 0, 2],
+            [11, 1, 60, 1, 1],
+        ],
+        names: &["L"],
+        sheet: &[[5, 60, 1, 0], [9, 20, 1, 0]],
+        bindings: &[0, 2, 0, 0, 0, 0],
+        placing: None,
+        verdict: false,
+    },
+    Case {
+        text: "L: for range x { continue L }",
+        rows: &[[12, 0, 10, 0, 5], [3, 0, 20, 1, 4], [20, 0, 30, 0, 3], [12, 0, 40, 0, 2], [11, 1, 50, 1, 1]],
+        names: &["L"],
+        sheet: &[],
+        bindings: &[0, 2, 0, 0, 2],
+        placing: None,
+        verdict: false,
+    },
+    Case {
+        text: "L: select { default: break L }",
+        rows: &[
+            [12, 0, 10, 0, 6], [3, 0, 20, 1, 5], [18, 0, 30, 0, 4], [12, 0, 40, 0, 3], [17, 1, 50, 0, 2],
+            [11, 0, 60, 1, 1],
+        ],
+        names: &["L"],
+        sheet: &[],
+        bindings: &[0, 2, 0, 0, 0, 2],
+        placing: None,
+        verdict: false,
+    },
+    Case {
+        text: "switch { case a: fallthrough L; default: }",
+        rows: &[
+            [12, 0, 10, 0, 6], [15, 0, 20, 0, 5], [12, 0, 30, 0, 4], [14, 0, 40, 0, 2], [11, 3, 50, 1, 1],
+            [14, 1, 60, 0, 1],
+        ],
+        names: &["L"],
+        sheet: &[[6, 50, 1, 0]],
+        bindings: &[0, 0, 0, 0, 0, 0],
+        placing: None,
+        verdict: false,
+    },
+    Case {
+        text: "b: ; a: ; ab: ;",
+        rows: &[
+            [12, 0, 10, 0, 7], [3, 0, 20, 1, 2], [2, 0, 30, 0, 1], [3, 0, 40, 2, 2], [2, 0, 50, 0, 1],
+            [3, 0, 60, 3, 2], [2, 0, 70, 0, 1],
+        ],
+        names: &["b", "a", "ab"],
+        sheet: &[[9, 40, 2, 0], [9, 60, 3, 0], [9, 20, 1, 0]],
+        bindings: &[0, 2, 0, 4, 0, 6, 0],
+        placing: None,
+        verdict: false,
+    },
+    Case {
+        text: "é: ; z: ;",
+        rows: &[[12, 0, 10, 0, 5], [3, 0, 20, 1, 2], [2, 0, 30, 0, 1], [3, 0, 40, 2, 2], [2, 0, 50, 0, 1]],
+        names: &["é", "z"],
+        sheet: &[[9, 40, 2, 0], [9, 20, 1, 0]],
+        bindings: &[0, 2, 0, 4, 0],
+        placing: None,
+        verdict: false,
+    },
+    Case {
+        text: "return; L: ;",
+        rows: &[[12, 0, 10, 0, 4], [10, 0, 20, 0, 1], [3, 0, 30, 1, 2], [2, 0, 40, 0, 1]],
+        names: &["L"],
+        sheet: &[[9, 30, 1, 0]],
+        bindings: &[0, 0, 3, 0],
+        placing: None,
+        verdict: false,
+    },
+];
+
+/// Bodies for the placing and verdict calls.
+pub const FLOW: [Case; 11] = [
+    Case {
+        text: "each plain kind, then return",
+        rows: &[
+            [12, 0, 10, 0, 11], [0, 0, 20, 0, 1], [1, 1, 30, 0, 1], [2, 0, 40, 0, 1], [4, 0, 50, 0, 1],
+            [5, 0, 60, 0, 1], [6, 0, 70, 0, 1], [7, 0, 80, 0, 1], [8, 0, 90, 0, 1], [9, 0, 100, 0, 1],
+            [10, 0, 110, 0, 1],
+        ],
+        names: &[],
+        sheet: &[],
+        bindings: &[0; 11],
+        placing: None,
+        verdict: true,
+    },
+    Case {
+        text: "return; ;",
+        rows: &[[12, 0, 10, 0, 3], [10, 0, 20, 0, 1], [2, 0, 30, 0, 1]],
+        names: &[],
+        sheet: &[],
+        bindings: &[0, 0, 0],
+        placing: None,
+        verdict: true,
+    },
+    Case {
+        text: "if c { return } else if d { panic(1) } else { for {} }",
+        rows: &[
+            [12, 0, 10, 0, 10], [13, 1, 20, 0, 9], [12, 0, 30, 0, 2], [10, 0, 40, 0, 1], [13, 1, 50, 0, 6],
+            [12, 0, 60, 0, 2], [4, 1, 70, 0, 1], [12, 0, 80, 0, 3], [19, 0, 90, 0, 2], [12, 0, 100, 0, 1],
+        ],
+        names: &[],
+        sheet: &[],
+        bindings: &[0; 10],
+        placing: None,
+        verdict: true,
+    },
+    Case {
+        text: "if c { return } else if d { panic(1) }",
+        rows: &[
+            [12, 0, 10, 0, 7], [13, 1, 20, 0, 6], [12, 0, 30, 0, 2], [10, 0, 40, 0, 1], [13, 0, 50, 0, 3],
+            [12, 0, 60, 0, 2], [4, 1, 70, 0, 1],
+        ],
+        names: &[],
+        sheet: &[],
+        bindings: &[0; 7],
+        placing: None,
+        verdict: false,
+    },
+    Case {
+        text: "for c {}",
+        rows: &[[12, 0, 10, 0, 3], [19, 1, 20, 0, 2], [12, 0, 30, 0, 1]],
+        names: &[],
+        sheet: &[],
+        bindings: &[0, 0, 0],
+        placing: None,
+        verdict: false,
+    },
+    Case {
+        text: "break; continue; fallthrough",
+        rows: &[[12, 0, 10, 0, 4], [11, 0, 20, 0, 1], [11, 1, 30, 0, 1], [11, 3, 40, 0, 1]],
+        names: &[],
+        sheet: &[],
+        bindings: &[0, 0, 0, 0],
+        placing: Some(1),
+        verdict: true,
+    },
+    Case {
+        text: "for { if c { continue }; break }; select { case <-c: continue }",
+        rows: &[
+            [12, 0, 10, 0, 11], [19, 0, 20, 0, 6], [12, 0, 30, 0, 5], [13, 0, 40, 0, 3], [12, 0, 50, 0, 2],
+            [11, 1, 60, 0, 1], [11, 0, 70, 0, 1], [18, 0, 80, 0, 4], [12, 0, 90, 0, 3], [17, 0, 100, 0, 2],
+            [11, 1, 110, 0, 1],
+        ],
+        names: &[],
+        sheet: &[],
+        bindings: &[0; 11],
+        placing: Some(10),
+        verdict: false,
+    },
+    Case {
+        text: "switch x.(type) { case a: if c { break }; return; default: return }",
+        rows: &[
+            [12, 0, 10, 0, 10], [16, 0, 20, 0, 9], [12, 0, 30, 0, 8], [14, 0, 40, 0, 5], [13, 0, 50, 0, 3],
+            [12, 0, 60, 0, 2], [11, 0, 70, 0, 1], [10, 0, 80, 0, 1], [14, 1, 90, 0, 2], [10, 0, 100, 0, 1],
+        ],
+        names: &[],
+        sheet: &[],
+        bindings: &[0; 10],
+        placing: None,
+        verdict: false,
+    },
+    Case {
+        text: "switch { case a: L: fallthrough; ; default: return }",
+        rows: &[
+            [12, 0, 10, 0, 9], [15, 0, 20, 0, 8], [12, 0, 30, 0, 7], [14, 0, 40, 0, 4], [3, 0, 50, 1, 2],
+            [11, 3, 60, 0, 1], [2, 0, 70, 0, 1], [14, 1, 80, 0, 2], [10, 0, 90, 0, 1],
+        ],
+        names: &["L"],
+        sheet: &[[9, 50, 1, 0]],
+        bindings: &[0, 0, 0, 0, 5, 0, 0, 0, 0],
+        placing: None,
+        verdict: true,
+    },
+    Case {
+        text: "switch { case a: { fallthrough }; default: return }",
+        rows: &[
+            [12, 0, 10, 0, 8], [15, 0, 20, 0, 7], [12, 0, 30, 0, 6], [14, 0, 40, 0, 3], [12, 0, 50, 0, 2],
+            [11, 3, 60, 0, 1], [14, 1, 70, 0, 2], [10, 0, 80, 0, 1],
+        ],
+        names: &[],
+        sheet: &[],
+        bindings: &[0; 8],
+        placing: Some(5),
+        verdict: true,
+    },
+    Case {
+        text: "switch { default: return; case a: return }",
+        rows: &[
+            [12, 0, 10, 0, 7], [15, 0, 20, 0, 6], [12, 0, 30, 0, 5], [14, 1, 40, 0, 2], [10, 0, 50, 0, 1],
+            [14, 0, 60, 0, 2], [10, 0, 70, 0, 1],
+        ],
+        names: &[],
+        sheet: &[],
+        bindings: &[0; 7],
+        placing: None,
+        verdict: true,
+    },
+];

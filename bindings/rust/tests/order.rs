@@ -1,0 +1,101 @@
+//! The order of the refusals: a body with several faults gets the one that document 01 tests first.
+
+mod common;
+
+use common::*;
+use zesthull::Refusal;
+
+const ROWS: usize = 110;
+/// The number and index of each refusal that `faulty` brings about.
+const REFUSALS: [(u32, usize); 7] = [(1, 0), (2, 0), (3, 1), (4, 107), (5, 105), (6, 100), (7, 0)];
+
+/// A body with the faults whose numbers are asked for, each where the others leave it. Row 103 and
+/// those after it are items of row 0.
+fn faulty(has: impl Fn(u32) -> bool) -> Words {
+    let mut rows = flat(ROWS);
+    let chain = if has(6) { 103 } else { 100 };
+    rows[..chain].copy_from_slice(&nested(chain));
+    rows[0][4] = ROWS as u32;
+    if has(4) {
+        rows[107][2] = 0;
+    }
+    if has(5) {
+        rows[105][4] = 0;
+    }
+    let mut words = Words::new(&rows, &["M", "L", "N"]);
+    if has(1) {
+        words.rows.push(0);
+    }
+    if has(2) {
+        words.pairs.push(0);
+    }
+    if has(3) {
+        words.pairs[3] = 0;
+    }
+    words
+}
+
+/// Each set of faults gets the one with the lowest number.
+#[test]
+fn all_sets_of_faults() {
+    for set in 1..1 << 7 {
+        let has = |number: u32| set >> (number - 1) & 1 == 1;
+        let first = (1..=7).find(|&number| has(number)).unwrap();
+        let (number, index) = REFUSALS[first as usize - 1];
+        let (words, what) = (faulty(has), format!("faults {set:07b}"));
+        if first < 7 {
+            expect_refusal(&what, &words, number, index);
+        }
+        let lent = if has(7) { (0, 0) } else { (8 * ROWS, ROWS) };
+        expect_unwritten(&what, &words, lent, Refusal { number, index });
+    }
+}
+
+#[test]
+fn without_faults() {
+    assert_eq!(zesthull::refusal(faulty(|_| false).body()), Ok(()));
+}
+
+/// Two faults of each two causes, by the ways that a cause comes about.
+#[test]
+fn too_much_of_everything() {
+    let mut words = Words::new(&flat(2001), &[]);
+    words.pairs = vec![0; 1002];
+    words.bytes = vec![b'a'; 8001];
+    expect_refusal("rows, pairs and bytes over the limits", &words, 1, 0);
+    words.rows.truncate(10_000);
+    expect_refusal("pairs and bytes over the limits", &words, 2, 0);
+    words.pairs.truncate(1000);
+    expect_refusal("bytes over the limit, pairs of length 0", &words, 2, 0);
+    words.bytes.truncate(8000);
+    expect_refusal("pairs of length 0, row 0 over the end", &words, 3, 0);
+    words.pairs.clear();
+    expect_refusal("row 0 over the end", &words, 5, 0);
+}
+
+/// A name past the last pair is a fault of the row, and comes after all pairs.
+#[test]
+fn pairs_before_rows() {
+    let mut words = example();
+    words.pairs[3] = 9;
+    words.rows[8] = 3;
+    expect_refusal("a pair and a row's name", &words, 3, 1);
+    words.pairs[3] = 1;
+    expect_refusal("a row's name", &words, 4, 1);
+}
+
+/// Each cause is tried over all rows before the next: the later row may be told.
+#[test]
+fn rows_before_shape_before_depth() {
+    let mut rows = nested(103);
+    rows[102][2] = 0;
+    rows[50][4] = 1;
+    expect_refusal("position 0 at the last row", &Words::new(&rows, &[]), 4, 102);
+    rows[102][2] = 1;
+    expect_refusal("row 50 too small", &Words::new(&rows, &[]), 5, 49);
+    rows[50][4] = 53;
+    rows[102] = [19, 0, 1, 0, 1];
+    expect_refusal("a For without Block, 103 deep", &Words::new(&rows, &[]), 5, 102);
+    rows[102] = [EMPTY, 0, 1, 0, 1];
+    expect_refusal("103 deep", &Words::new(&rows, &[]), 6, 100);
+}
