@@ -71,21 +71,22 @@ fn sort(pairs: &[u32], bytes: &[u8], names: &mut [u16], spare: &mut [u16]) {
     }
 }
 
-// ab, a, ab and 0xFF by number: a comes first, then ab twice, as merging leaves them, then 0xFF.
+// The bytes of a name whose number was sorted.
+fn show_number(pairs: &[u32], bytes: &[u8], n: u16) {
+    show_name(pairs, bytes, n as usize);
+}
+
+// ab, a, ab and z by number: a comes first, then ab twice, in whichever order, then z.
 fn few() {
     text(b"sorted\n");
+    let pairs = [0u32, 2, 2, 1, 3, 2, 5, 1];
     let mut names = [1u16, 2, 3, 4];
     let mut spare = [0u16; 4];
-    sort(
-        &[0u32, 2, 2, 1, 3, 2, 5, 1],
-        b"abaab\xff",
-        &mut names,
-        &mut spare,
-    );
-    number(names[0]);
-    number(names[1]);
-    number(names[2]);
-    number(names[3]);
+    sort(&pairs, b"abaabz", &mut names, &mut spare);
+    show_number(&pairs, b"abaabz", names[0]);
+    show_number(&pairs, b"abaabz", names[1]);
+    show_number(&pairs, b"abaabz", names[2]);
+    show_number(&pairs, b"abaabz", names[3]);
 }
 
 // Pairs of 16 bytes each, one after the other.
@@ -125,6 +126,33 @@ fn fill_numbers(names: &mut [u16]) {
     }
 }
 
+// Whether the number is one of these.
+fn has(names: &[u16], n: u16) -> bool {
+    let mut i = 0;
+    while i < names.len() {
+        if names[i] == n {
+            return true;
+        }
+        i += 1;
+    }
+    false
+}
+
+// How many numbers from 1 on, as many as there are, are none of these.
+fn missing(names: &[u16]) -> u16 {
+    let mut count: u16 = 0;
+    let mut n: u16 = 0;
+    let mut i = 0;
+    while i < names.len() {
+        n = std::num::wrapping_add_u16(n, 1);
+        if !has(names, n) {
+            count = std::num::wrapping_add_u16(count, 1);
+        }
+        i += 1;
+    }
+    count
+}
+
 // How many of the numbers are not what counting from `first` by `step` makes them.
 fn wrong(names: &[u16], first: u16, step: u16) -> u16 {
     let mut count: u16 = 0;
@@ -140,28 +168,35 @@ fn wrong(names: &[u16], first: u16, step: u16) -> u16 {
     count
 }
 
-// Sorts the numbers of 500 names of 16 bytes: the first two, the last, and how many are wrong.
-fn show_sorted(bytes: &[u8], first: u16, step: u16) {
+// 500 names of 16 bytes that share 14, from the last to the first: the numbers come out turned
+// round, and adding 65535 counts down by one. It prints the first two, the last, and how many are
+// wrong.
+fn many() {
+    text(b"500 names\n");
+    let mut bytes = [120u8; 8000];
+    let mut pairs = [0u32; 1000];
+    let mut names = [0u16; 500];
+    let mut spare = [0u16; 500];
+    fill_names(&mut bytes);
+    fill_pairs(&mut pairs);
+    fill_numbers(&mut names);
+    sort(&pairs, &bytes, &mut names, &mut spare);
+    number(names[0]);
+    number(names[1]);
+    number(names[499]);
+    number(wrong(&names, 500, 65535));
+}
+
+// 500 equal names come in any order, and none is lost.
+fn equal() {
+    text(b"500 equal names\n");
     let mut pairs = [0u32; 1000];
     let mut names = [0u16; 500];
     let mut spare = [0u16; 500];
     fill_pairs(&mut pairs);
     fill_numbers(&mut names);
-    sort(&pairs, bytes, &mut names, &mut spare);
-    number(names[0]);
-    number(names[1]);
-    number(names[499]);
-    number(wrong(&names, first, step));
-}
-
-// 500 names that share 14 bytes, from the last to the first: the numbers come out turned round, and
-// adding 65535 counts down by one. Then 500 equal names: each number keeps its place.
-fn many() {
-    text(b"500 names\n");
-    let mut bytes = [120u8; 8000];
-    fill_names(&mut bytes);
-    show_sorted(&bytes, 500, 65535);
-    show_sorted(&[120u8; 8000], 1, 1);
+    sort(&pairs, &[120u8; 8000], &mut names, &mut spare);
+    number(missing(&names));
 }
 
 fn main() {
@@ -170,4 +205,5 @@ fn main() {
     same();
     few();
     many();
+    equal();
 }

@@ -7,6 +7,7 @@ use Prim.Native.Nat.{ℕ}
 use Rattle.rules.proofs.Computed.{computed}
 use Rattle.bodyfile.specs.File.{words, badFile}
 use Rattle.report.specs.Text.{decimal, sheetText, bindsText, bodyText, marksText}
+use Rattle.report.specs.Limits.{badStart, countRefusal, startText}
 
 -- words below 256 as bytes
 abbrev small : List ℕ → List ℕ
@@ -22,6 +23,9 @@ rows = small (12 ∷ 0 ∷ 1 ∷ 0 ∷ 5 ∷ 11 ∷ 2 ∷ 7 ∷ 1 ∷ 1 ∷ 3 �
 abbrev pairs : List ℕ
 pairs = small (0 ∷ 1 ∷ 1 ∷ 1 ∷ [])
 
+abbrev file : List ℕ
+file = counts ++ rows ++ pairs ++ (77 ∷ 76 ∷ [])
+
 -- "sheet 2", "8 7 1 0", "9 9 2 0", "binds 1", "2 2", "placed yes", "verdict yes"
 abbrev printed : List ℕ
 printed =
@@ -33,7 +37,7 @@ printed =
     ++ (112 ∷ 108 ∷ 97 ∷ 99 ∷ 101 ∷ 100 ∷ 32 ∷ 121 ∷ 101 ∷ 115 ∷ 10 ∷ [])
     ++ (118 ∷ 101 ∷ 114 ∷ 100 ∷ 105 ∷ 99 ∷ 116 ∷ 32 ∷ 121 ∷ 101 ∷ 115 ∷ 10 ∷ [])
 
-pub example : marksText (counts ++ rows ++ pairs ++ (77 ∷ 76 ∷ [])) ≡ printed
+pub example : marksText file ≡ printed
 unfolding computed words badFile decimal sheetText bindsText bodyText marksText
 example = refl
 
@@ -47,6 +51,19 @@ pub refusals : (marksText [] ≡ refused 48)
     × (marksText (small (0 ∷ 0 ∷ 0 ∷ [])) ≡ refused 49)
 unfolding computed words badFile decimal sheetText bindsText bodyText marksText
 refusals = (refl, refl, refl)
+
+-- ---- from the first bytes and the length: the example whole; one byte too many; a part of it alone; 2,001 rows by the header alone, with their length and with another
+
+abbrev manyRows : List ℕ
+manyRows = 209 ∷ 7 ∷ 0 ∷ 0 ∷ small (0 ∷ 0 ∷ [])
+
+pub starts : (startText file 130 ≡ printed)
+    × (startText file 131 ≡ refused 48)
+    × (startText counts 130 ≡ refused 48)
+    × (startText manyRows 40032 ≡ refused 49)
+    × (startText manyRows 40033 ≡ refused 48)
+unfolding computed words badStart countRefusal startText decimal sheetText bindsText bodyText
+starts = (refl, refl, refl, refl, refl)
 
 -- numbers of one digit and of more
 pub numbers : (decimal 0 ≡ 48 ∷ []) × (decimal 9 ≡ 57 ∷ []) × (decimal 10 ≡ 49 ∷ 48 ∷ []) × (decimal 4294967295 ≡ 52 ∷ 50 ∷ 57 ∷ 52 ∷ 57 ∷ 54 ∷ 55 ∷ 50 ∷ 57 ∷ 53 ∷ [])

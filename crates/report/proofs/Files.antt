@@ -8,7 +8,7 @@ use Prim.Native.Nat.{ℕ, zero, suc, _+_, _≤_, _<_}
 use native.Mathlib.Omega.{arith}
 use native.Mathlib.Decide.{decLt, ℕ-discrete}
 use lib.Dec.{ltb, eqb}
-use lib.ListN.{length, take, length-take}
+use lib.ListN.{length, getD, take, length-take}
 use lib.Seq.{getD-take, take-all}
 use borrow.Author.Tests.{ltb-false, eqb-true, lt-ltb, le-ltb, eq-eqb, ne-eqb, not-false}
 use Rattle.rules.proofs.Test.{case-of, or-false}
@@ -148,3 +148,17 @@ module _ (f : List ℕ) (m : ℕ) (all : 52012 ≤ m) where
   of-whole = case-of (badFile f)
       (λ t. sym (text-bad (take m f) (length f) (start-same f m long ∙ t)) ∙ marks-bad f t)
       (λ t. elim (ℕ-discrete (countRefusal (take m f)) 0) [ yes c ↦ prints-whole t c | no z ↦ prints-counts t z ])
+
+-- ---- an input that isn't counted to its end: no header says a length of 2^37 or more, so whatever it is, the answer is 0
+module _ (start : List ℕ) (bytes-small : (i : ℕ) → getD start i 0 < 256) where
+  word-small : (i : ℕ) → word start i < 4294967296
+  word-small i = omega (arith, bytes-small i, bytes-small (i + 1), bytes-small (i + 2), bytes-small (i + 3))
+
+  said-small : said start < 137438953472
+  said-small = omega (arith, word-small 0, word-small 4, word-small 8)
+
+  pub uncounted-refused : (n : ℕ) → 137438953472 ≤ n → startText start n ≡ refusedText 0 0
+  unfolding badStart
+  uncounted-refused n h =
+      let z : eqb n (said start) ≡ false = ne-eqb n (said start) (λ e. omega (arith, said-small)) in
+      sym (text-bad start n (case-of (ltb (length start) 12) (λ t. rw (t, badStart)) (λ t. rw (t, z, badStart))))
