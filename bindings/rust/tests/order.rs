@@ -56,7 +56,7 @@ fn without_faults() {
     assert_eq!(zesthull::refusal(faulty(|_| false).body()), Ok(()));
 }
 
-/// Two faults of each two causes, by the ways that a cause comes about.
+/// One fault after another taken away.
 #[test]
 fn too_much_of_everything() {
     let mut words = Words::new(&flat(2001), &[]);
@@ -89,10 +89,10 @@ fn pairs_before_rows() {
 fn rows_before_shape_before_depth() {
     let mut rows = nested(103);
     rows[102][2] = 0;
-    rows[50][4] = 1;
+    rows[50][4] = 2;
     expect_refusal("position 0 at the last row", &Words::new(&rows, &[]), 4, 102);
     rows[102][2] = 1;
-    expect_refusal("row 50 too small", &Words::new(&rows, &[]), 5, 49);
+    expect_refusal("row 50 smaller than its child", &Words::new(&rows, &[]), 5, 50);
     rows[50][4] = 53;
     rows[102] = [19, 0, 1, 0, 1];
     expect_refusal("a For without Block, 103 deep", &Words::new(&rows, &[]), 5, 102);

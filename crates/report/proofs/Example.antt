@@ -4,10 +4,12 @@
 use mathlib.Core.Path.{_≡_, refl}
 use mathlib.Core.List.{List, [], _∷_, _++_}
 use Prim.Native.Nat.{ℕ}
+use native.Mathlib.Omega.{arith}
 use Rattle.rules.proofs.Computed.{computed}
 use Rattle.bodyfile.specs.File.{words, badFile}
 use Rattle.report.specs.Text.{decimal, sheetText, bindsText, bodyText, marksText}
 use Rattle.report.specs.Limits.{badStart, countRefusal, startText}
+use Rattle.report.proofs.Files.{of-whole}
 
 -- words below 256 as bytes
 abbrev small : List ℕ → List ℕ
@@ -64,6 +66,10 @@ pub starts : (startText file 130 ≡ printed)
     × (startText manyRows 40033 ≡ refused 48)
 unfolding computed words badStart countRefusal startText decimal sheetText bindsText bodyText
 starts = (refl, refl, refl, refl, refl)
+
+-- and of a whole file that is what is printed for it
+pub read-whole : startText file 130 ≡ marksText file
+read-whole = of-whole file 52012 (omega arith)
 
 -- numbers of one digit and of more
 pub numbers : (decimal 0 ≡ 48 ∷ []) × (decimal 9 ≡ 57 ∷ []) × (decimal 10 ≡ 49 ∷ 48 ∷ []) × (decimal 4294967295 ≡ 52 ∷ 50 ∷ 57 ∷ 52 ∷ 57 ∷ 54 ∷ 55 ∷ 50 ∷ 57 ∷ 53 ∷ [])

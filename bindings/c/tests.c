@@ -1,0 +1,405 @@
+/* Every call from C: document 01's answers and refusals, counts of 0, words that have to stay, and
+   the version. Prints a line for each check that fails and returns 1; else prints how many passed.
+
+   cc bindings/c/tests.c -Ibindings/c target/staticlib/libexports.a -o tests && ./tests */
+#include <stdio.h>
+
+#include "zesthull.h"
+
+enum { MARGIN = 4, MOST_ROWS = 2000, UNSET = 0x5A5A5A5A };
+
+struct body {
+    const uint32_t *rows;
+    size_t row_words;
+    const uint32_t *pairs;
+    size_t pair_words;
+    const uint8_t *bytes;
+    size_t byte_count;
+};
+
+struct answer {
+    const uint32_t *sheet;
+    size_t sheet_words;
+    const uint32_t *bindings;
+    size_t rows;
+    size_t placing, verdict;
+};
+
+static const uint32_t no_words[1];
+
+/* A pointer and a count, for the members of both; a count of 0 has a pointer too. */
+#define WORDS(...) (const uint32_t[]){__VA_ARGS__}, sizeof((const uint32_t[]){__VA_ARGS__}) / sizeof(uint32_t)
+#define NO_WORDS no_words, 0
+#define BYTES(text) (const uint8_t *)text, sizeof(text) - 1
+
+#define LENT(b) (b).rows, (b).row_words, (b).pairs, (b).pair_words, (b).bytes, (b).byte_count
+
+static size_t checks, failures;
+
+static void check(int line, int passed, const char *what) {
+    checks++;
+    if (passed) return;
+    failures++;
+    printf("tests.c:%d: %s\n", line, what);
+}
+
+/* The number that a call has returned and its value, beside those due. */
+static void check_told(int line, const char *call, uint32_t number, size_t value,
+                       uint32_t number_due, size_t value_due) {
+    char what[160];
+    snprintf(what, sizeof what, "zesthull_%s gave number %u and value %zu, due are %u and %zu", call,
+             (unsigned)number, value, (unsigned)number_due, value_due);
+    check(line, number == number_due && value == value_due, what);
+}
+
+/* Lent memory: it holds a pattern, and each buffer has a margin on both sides. */
+
+static uint32_t sheet_memory[8 * MOST_ROWS + 3 * MARGIN];
+static uint32_t binding_memory[MOST_ROWS + 3 * MARGIN];
+static uint32_t *const sheet = sheet_memory + MARGIN, *const bindings = binding_memory + MARGIN;
+
+#define COUNT(array) (sizeof(array) / sizeof((array)[0]))
+
+static uint32_t pattern(size_t at) { return 0xA5A50000u ^ (uint32_t)at; }
+
+static void fill(void) {
+    for (size_t i = 0; i < COUNT(sheet_memory); i++) sheet_memory[i] = pattern(i);
+    for (size_t i = 0; i < COUNT(binding_memory); i++) binding_memory[i] = pattern(i);
+}
+
+/* Whether the memory has the words given after its margin, and the pattern elsewhere. */
+static int holds(const uint32_t *memory, size_t count, const uint32_t *words, size_t written) {
+    for (size_t i = 0; i < count; i++) {
+        int inside = i >= MARGIN && i < MARGIN + written;
+        if (memory[i] != (inside ? words[i - MARGIN] : pattern(i))) return 0;
+    }
+    return 1;
+}
+
+static void check_memory(int line, struct answer due) {
+    check(line, holds(sheet_memory, COUNT(sheet_memory), due.sheet, due.sheet_words), "sheet words");
+    check(line, holds(binding_memory, COUNT(binding_memory), due.bindings, due.rows), "binding words");
+}
+
+/* Each call, with what it has to tell. */
+
+static size_t *unset(size_t *word) {
+    *word = UNSET;
+    return word;
+}
+
+static void try_refusal(int line, struct body body, uint32_t number, size_t due) {
+    size_t value;
+    uint32_t got = zesthull_refusal(LENT(body), unset(&value));
+    check_told(line, "refusal", got, value, number, due);
+}
+
+static void try_placing(int line, struct body body, uint32_t number, size_t due) {
+    size_t value;
+    uint32_t got = zesthull_placing(LENT(body), unset(&value));
+    check_told(line, "placing", got, value, number, due);
+}
+
+static void try_verdict(int line, struct body body, uint32_t number, size_t due) {
+    size_t value;
+    uint32_t got = zesthull_verdict(LENT(body), unset(&value));
+    check_told(line, "verdict", got, value, number, due);
+}
+
+static void try_labels(int line, struct body body, size_t sheet_words, size_t binding_words,
+                       uint32_t number, size_t due, struct answer answer) {
+    size_t value;
+    fill();
+    uint32_t got = zesthull_labels(LENT(body), sheet, sheet_words, bindings, binding_words,
+                                   unset(&value));
+    check_told(line, "labels", got, value, number, due);
+    check_memory(line, answer);
+}
+
+static void try_marks(int line, struct body body, size_t sheet_words, size_t binding_words,
+                      uint32_t number, size_t due, struct answer answer) {
+    size_t value, placing, verdict;
+    fill();
+    uint32_t got = zesthull_marks(LENT(body), sheet, sheet_words, bindings, binding_words,
+                                  unset(&value), unset(&placing), unset(&verdict));
+    check_told(line, "marks", got, value, number, due);
+    check(line, placing == answer.placing, "placing of the marks");
+    check(line, verdict == answer.verdict, "verdict of the marks");
+    check_memory(line, answer);
+}
+
+/* A well-formed body through every call, with buffers just long enough and longer. */
+static void answered(int line, struct body body, struct answer due) {
+    try_refusal(line, body, ZESTHULL_NONE, 0);
+    try_placing(line, body, ZESTHULL_NONE, due.placing);
+    try_verdict(line, body, ZESTHULL_NONE, due.verdict);
+    size_t faults = due.sheet_words / 4;
+    for (size_t more = 0; more <= MARGIN; more += MARGIN) {
+        size_t sheet_words = 8 * due.rows + more, binding_words = due.rows + more;
+        try_labels(line, body, sheet_words, binding_words, ZESTHULL_NONE, faults, due);
+        try_marks(line, body, sheet_words, binding_words, ZESTHULL_NONE, faults, due);
+    }
+}
+
+/* What a refused call leaves: nothing written, not even placing and verdict. */
+static const struct answer nothing = {NULL, 0, NULL, 0, UNSET, UNSET};
+
+static void writers_refused(int line, struct body body, size_t sheet_words, size_t binding_words,
+                            uint32_t number, size_t index) {
+    try_labels(line, body, sheet_words, binding_words, number, index, nothing);
+    try_marks(line, body, sheet_words, binding_words, number, index, nothing);
+}
+
+/* A refused body through every call, with long buffers and with none. */
+static void refused(int line, struct body body, uint32_t number, size_t index) {
+    try_refusal(line, body, number, index);
+    try_placing(line, body, number, index);
+    try_verdict(line, body, number, index);
+    writers_refused(line, body, 8 * MOST_ROWS, MOST_ROWS, number, index);
+    writers_refused(line, body, 0, 0, number, index);
+}
+
+/* {goto M;L:for{}} */
+static const uint32_t example_rows[25] = {
+    12, 0, 1, 0, 5, 11, 2, 7, 1, 1, 3, 0, 9, 2, 3, 19, 0, 11, 0, 2, 12, 0, 14, 0, 1,
+};
+static const uint32_t example_pairs[4] = {0, 1, 1, 1};
+
+static struct body example(void) {
+    return (struct body){example_rows, 25, example_pairs, 4, BYTES("ML")};
+}
+
+static void test_numbers(void) {
+    check(__LINE__, zesthull_version() == ZESTHULL_VERSION, "version of header and archive");
+    check(__LINE__, ZESTHULL_NONE == 0 && ZESTHULL_ROW_WORDS == 1, "refusals 0 and 1");
+    check(__LINE__, ZESTHULL_NAME_WORDS == 2 && ZESTHULL_PAIR == 3, "refusals 2 and 3");
+    check(__LINE__, ZESTHULL_ROW == 4 && ZESTHULL_SHAPE == 5, "refusals 4 and 5");
+    check(__LINE__, ZESTHULL_DEPTH == 6 && ZESTHULL_TOO_SHORT == 7, "refusals 6 and 7");
+}
+
+/* Bodies of document 01's table; the position of row r is 10 * (r + 1). */
+static void test_labels(void) {
+    answered(__LINE__, example(),
+             (struct answer){WORDS(8, 7, 1, 0, 9, 9, 2, 0), WORDS(0, 0, 3, 0, 0), 0, 1});
+    /* L: for { break L } */
+    answered(__LINE__,
+             (struct body){WORDS(12, 0, 10, 0, 5, 3, 0, 20, 1, 4, 19, 0, 30, 0, 3, 12, 0, 40, 0, 2,
+                                 11, 0, 50, 1, 1),
+                           WORDS(0, 1), BYTES("L")},
+             (struct answer){NO_WORDS, WORDS(0, 2, 0, 0, 2), 0, 0});
+    /* goto L; x := 1; L: return */
+    answered(__LINE__,
+             (struct body){WORDS(12, 0, 10, 0, 5, 11, 2, 20, 1, 1, 7, 1, 30, 0, 1, 3, 0, 40, 1, 2,
+                                 10, 0, 50, 0, 1),
+                           WORDS(0, 1), BYTES("L")},
+             (struct answer){WORDS(3, 20, 1, 30), WORDS(0, 4, 0, 4, 0), 0, 1});
+    /* { L: return }; goto L; L: return, with a number for each L */
+    answered(__LINE__,
+             (struct body){WORDS(12, 0, 10, 0, 7, 12, 0, 20, 0, 3, 3, 0, 30, 1, 2, 10, 0, 40, 0, 1,
+                                 11, 2, 50, 2, 1, 3, 0, 60, 3, 2, 10, 0, 70, 0, 1),
+                           WORDS(0, 1, 1, 1, 2, 1), BYTES("LLL")},
+             (struct answer){WORDS(1, 60, 3, 0, 2, 30, 1, 0, 9, 30, 1, 0),
+                             WORDS(0, 0, 3, 0, 6, 0, 0), 0, 1});
+}
+
+static void test_placing_and_verdict(void) {
+    /* no items */
+    answered(__LINE__, (struct body){WORDS(12, 0, 10, 0, 1), NO_WORDS, BYTES("")},
+             (struct answer){NO_WORDS, WORDS(0), 0, 0});
+    /* select {} */
+    answered(__LINE__,
+             (struct body){WORDS(12, 0, 10, 0, 3, 18, 0, 20, 0, 2, 12, 0, 30, 0, 1), NO_WORDS, BYTES("")},
+             (struct answer){NO_WORDS, WORDS(0, 0, 0), 0, 1});
+    /* switch { default: fallthrough } */
+    answered(__LINE__,
+             (struct body){WORDS(12, 0, 10, 0, 5, 15, 0, 20, 0, 4, 12, 0, 30, 0, 3, 14, 1, 40, 0, 2,
+                                 11, 3, 50, 0, 1),
+                           NO_WORDS, BYTES("")},
+             (struct answer){NO_WORDS, WORDS(0, 0, 0, 0, 0), 5, 1});
+}
+
+/* Rows of a Block: Empty items, or Blocks inside each other. */
+
+static uint32_t many_rows[5 * (MOST_ROWS + 1)];
+
+static void put_row(size_t row, uint32_t kind, size_t size) {
+    const uint32_t words[5] = {kind, 0, 1, 0, (uint32_t)size};
+    for (size_t i = 0; i < 5; i++) many_rows[5 * row + i] = words[i];
+}
+
+static struct body of_many_rows(size_t rows) {
+    return (struct body){many_rows, 5 * rows, NO_WORDS, BYTES("")};
+}
+
+static struct body flat(size_t rows) {
+    for (size_t r = 0; r < rows; r++) put_row(r, r ? 2 : 12, r ? 1 : rows);
+    return of_many_rows(rows);
+}
+
+static struct body nested(size_t rows) {
+    for (size_t r = 0; r < rows; r++) put_row(r, 12, rows - r);
+    return of_many_rows(rows);
+}
+
+static void test_row_words(void) {
+    struct body body = example();
+    for (body.row_words = 0; body.row_words < 5; body.row_words++)
+        refused(__LINE__, body, ZESTHULL_ROW_WORDS, 0);
+    body.row_words = 24;
+    refused(__LINE__, body, ZESTHULL_ROW_WORDS, 0);
+    refused(__LINE__, flat(2001), ZESTHULL_ROW_WORDS, 0);
+    static const uint32_t unbound[2000];
+    answered(__LINE__, flat(2000), (struct answer){NO_WORDS, unbound, 2000, 0, 0});
+}
+
+static void test_name_words(void) {
+    static uint32_t pairs[1002];
+    static uint8_t bytes[8001];
+    for (uint32_t i = 0; i < 501; i++) {
+        pairs[2 * i] = i;
+        pairs[2 * i + 1] = 1;
+    }
+    struct body body = {example_rows, 25, pairs, 1000, bytes, 8000};
+    try_refusal(__LINE__, body, ZESTHULL_NONE, 0);
+    body.byte_count = 8001;
+    refused(__LINE__, body, ZESTHULL_NAME_WORDS, 0);
+    body.byte_count = 8000;
+    body.pair_words = 1002;
+    refused(__LINE__, body, ZESTHULL_NAME_WORDS, 0);
+    body.pair_words = 5;
+    refused(__LINE__, body, ZESTHULL_NAME_WORDS, 0);
+}
+
+static void pairs_refused(int line, const uint32_t *pairs, size_t pair_words, size_t index) {
+    struct body body = {example_rows, 25, pairs, pair_words, BYTES("ML")};
+    refused(line, body, ZESTHULL_PAIR, index);
+}
+
+static void test_pairs(void) {
+    pairs_refused(__LINE__, WORDS(0, 0, 1, 1), 0);
+    pairs_refused(__LINE__, WORDS(0, 1, 1, 0), 1);
+    pairs_refused(__LINE__, WORDS(0, 2, 1, 1), 1);
+    pairs_refused(__LINE__, WORDS(0, 1, 1, 2), 1);
+    pairs_refused(__LINE__, WORDS(0, 1, 0xFFFFFFFF, 2), 1);
+}
+
+/* The example with one word of its rows changed. */
+static void word_refused(int line, size_t at, uint32_t word, uint32_t number, size_t row) {
+    uint32_t rows[25];
+    for (size_t i = 0; i < 25; i++) rows[i] = i == at ? word : example_rows[i];
+    struct body body = {rows, 25, example_pairs, 4, BYTES("ML")};
+    refused(line, body, number, row);
+}
+
+static void test_rows(void) {
+    word_refused(__LINE__, 5, 21, ZESTHULL_ROW, 1);
+    word_refused(__LINE__, 6, 4, ZESTHULL_ROW, 1);
+    word_refused(__LINE__, 12, 0, ZESTHULL_ROW, 2);
+    word_refused(__LINE__, 8, 0, ZESTHULL_ROW, 1);
+    word_refused(__LINE__, 13, 3, ZESTHULL_ROW, 2);
+    word_refused(__LINE__, 23, 1, ZESTHULL_ROW, 4);
+}
+
+static void test_shape(void) {
+    word_refused(__LINE__, 4, 4, ZESTHULL_SHAPE, 0);
+    word_refused(__LINE__, 24, 0, ZESTHULL_SHAPE, 4);
+    word_refused(__LINE__, 24, 2, ZESTHULL_SHAPE, 4);
+    word_refused(__LINE__, 14, 1, ZESTHULL_SHAPE, 2);
+    word_refused(__LINE__, 20, 2, ZESTHULL_SHAPE, 3);
+    word_refused(__LINE__, 20, 14, ZESTHULL_SHAPE, 3);
+}
+
+static void test_depth(void) {
+    try_refusal(__LINE__, nested(100), ZESTHULL_NONE, 0);
+    refused(__LINE__, nested(101), ZESTHULL_DEPTH, 100);
+    refused(__LINE__, nested(2000), ZESTHULL_DEPTH, 100);
+}
+
+static void test_too_short(void) {
+    writers_refused(__LINE__, example(), 39, 5, ZESTHULL_TOO_SHORT, 0);
+    writers_refused(__LINE__, example(), 40, 4, ZESTHULL_TOO_SHORT, 0);
+    writers_refused(__LINE__, example(), 0, 5, ZESTHULL_TOO_SHORT, 0);
+    writers_refused(__LINE__, example(), 40, 0, ZESTHULL_TOO_SHORT, 0);
+    writers_refused(__LINE__, example(), 0, 0, ZESTHULL_TOO_SHORT, 0);
+}
+
+/* Two faults: the one that document 01 tests first. */
+static void test_order(void) {
+    struct body body = {example_rows, 24, WORDS(0), BYTES("")};
+    refused(__LINE__, body, ZESTHULL_ROW_WORDS, 0);
+    body.row_words = 25;
+    refused(__LINE__, body, ZESTHULL_NAME_WORDS, 0);
+    body = nested(101);
+    many_rows[5 * 100 + 2] = 0;
+    refused(__LINE__, body, ZESTHULL_ROW, 100);
+    many_rows[5 * 100 + 2] = 1;
+    many_rows[5 * 100] = 19;
+    refused(__LINE__, body, ZESTHULL_SHAPE, 100);
+}
+
+/* Counts of 0 for each argument; the pointers stay good. */
+static void test_counts_of_zero(void) {
+    struct body body = example();
+    body.row_words = 0;
+    refused(__LINE__, body, ZESTHULL_ROW_WORDS, 0);
+    body = example();
+    body.pair_words = 0;
+    refused(__LINE__, body, ZESTHULL_ROW, 1);
+    body = example();
+    body.byte_count = 0;
+    refused(__LINE__, body, ZESTHULL_PAIR, 0);
+    body.pair_words = 0;
+    refused(__LINE__, body, ZESTHULL_ROW, 1);
+    body.row_words = 0;
+    refused(__LINE__, body, ZESTHULL_ROW_WORDS, 0);
+}
+
+static void named(int line, struct body body, size_t number, size_t length, size_t start) {
+    size_t offset;
+    size_t got = zesthull_name(body.pairs, body.pair_words, body.bytes, body.byte_count, number,
+                               unset(&offset));
+    check(line, got == length, "length of the name");
+    check(line, offset == start, "offset of the name");
+}
+
+/* Where there is no such name, length and offset are 0. */
+static void test_names(void) {
+    struct body body = {NO_WORDS, WORDS(1, 2, 4, 3), BYTES("abcdefgh")};
+    named(__LINE__, body, 1, 2, 1);
+    named(__LINE__, body, 2, 3, 4);
+    named(__LINE__, body, 0, 0, 0);
+    named(__LINE__, body, 3, 0, 0);
+    named(__LINE__, body, SIZE_MAX, 0, 0);
+    named(__LINE__, body, SIZE_MAX / 2 + 2, 0, 0);
+    body.byte_count = 6;
+    named(__LINE__, body, 1, 0, 0);
+    body.byte_count = 0;
+    named(__LINE__, body, 1, 0, 0);
+    body.byte_count = 8;
+    body.pair_words = 3;
+    named(__LINE__, body, 1, 0, 0);
+    body.pair_words = 0;
+    named(__LINE__, body, 1, 0, 0);
+}
+
+int main(void) {
+    test_numbers();
+    test_labels();
+    test_placing_and_verdict();
+    test_row_words();
+    test_name_words();
+    test_pairs();
+    test_rows();
+    test_shape();
+    test_depth();
+    test_too_short();
+    test_order();
+    test_counts_of_zero();
+    test_names();
+    if (failures) {
+        printf("%zu of %zu checks failed\n", failures, checks);
+        return 1;
+    }
+    printf("%zu checks passed\n", checks);
+    return 0;
+}
