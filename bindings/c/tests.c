@@ -28,7 +28,8 @@ struct answer {
 static const uint32_t no_words[1];
 
 /* A pointer and a count, for the members of both; a count of 0 has a pointer too. */
-#define WORDS(...) (const uint32_t[]){__VA_ARGS__}, sizeof((const uint32_t[]){__VA_ARGS__}) / sizeof(uint32_t)
+#define WORDS(...) \
+    (const uint32_t[]){__VA_ARGS__}, sizeof((const uint32_t[]){__VA_ARGS__}) / sizeof(uint32_t)
 #define NO_WORDS no_words, 0
 #define BYTES(text) (const uint8_t *)text, sizeof(text) - 1
 

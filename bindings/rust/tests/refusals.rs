@@ -190,7 +190,8 @@ fn depth_of_other_kinds() {
         all.push([BLOCK, 0, 1, 0, 1]);
         Words::new(&all, &["L"])
     };
-    let chains: [&[[u32; 3]]; 3] = [&[[LABELED, 0, 1]], &[[19, 0, 0], [BLOCK, 0, 0]], &[[13, 0, 0], [BLOCK, 0, 0]]];
+    let (labels, if_, for_) = ([[LABELED, 0, 1]], [13, 0, 0], [19, 0, 0]);
+    let chains: [&[[u32; 3]]; 3] = [&labels, &[if_, [BLOCK, 0, 0]], &[for_, [BLOCK, 0, 0]]];
     for kinds in chains {
         assert_eq!(zesthull::refusal(below(kinds, 100).body()), Ok(()));
         let deeper = if kinds.len() == 1 { 101 } else { 102 };
