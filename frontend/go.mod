@@ -1,0 +1,3 @@
+module zesthull
+
+go 1.19
