@@ -33,19 +33,18 @@ func (s *Script) findPanics() {
 // callsNamedPanic are the statements that call something named panic.
 func (s *Script) callsNamedPanic() map[*ast.CallExpr]*ast.Ident {
 	named := map[*ast.CallExpr]*ast.Ident{}
-	if s.file == nil {
-		return named
-	}
-	ast.Inspect(s.file, func(n ast.Node) bool {
-		if statement, ok := n.(*ast.ExprStmt); ok {
-			if call, ok := rows.Unparen(statement.X).(*ast.CallExpr); ok {
-				if ident, ok := rows.Unparen(call.Fun).(*ast.Ident); ok && ident.Name == "panic" {
-					named[call] = ident
+	for _, f := range s.Functions {
+		ast.Inspect(f.Body, func(n ast.Node) bool {
+			if statement, ok := n.(*ast.ExprStmt); ok {
+				if call, ok := rows.Unparen(statement.X).(*ast.CallExpr); ok {
+					if ident, ok := rows.Unparen(call.Fun).(*ast.Ident); ok && ident.Name == "panic" {
+						named[call] = ident
+					}
 				}
 			}
-		}
-		return true
-	})
+			return true
+		})
+	}
 	return named
 }
 
@@ -57,7 +56,13 @@ func (s *Script) resolve() (uses map[*ast.Ident]types.Object, declared bool) {
 		// a fault of go/types itself leaves what it found so far
 		_ = recover()
 	}()
-	p, _ := config.Check(s.file.Name.Name, s.fset, []*ast.File{s.file}, &types.Info{Uses: uses})
+	var files []*ast.File
+	for _, p := range s.pieces {
+		if p.file != nil {
+			files = append(files, p.file)
+		}
+	}
+	p, _ := config.Check("p", s.fset, files, &types.Info{Uses: uses})
 	return uses, p != nil && p.Scope().Lookup("panic") != nil
 }
 

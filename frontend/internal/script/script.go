@@ -2,42 +2,23 @@
 package script
 
 import (
-	"errors"
 	"go/ast"
-	"go/parser"
 	"go/scanner"
 	"go/token"
 	"sort"
-	"strconv"
 )
-
-// A Function is a function or a function literal with a body.
-type Function struct {
-	// Name is that of the function, with its receiver's type before it; a literal is named as Go's tools name it, f.func1.
-	Name string
-	// Statements: the body is a list of statements and no function's.
-	Statements bool
-	// At is the place of the function's name, or of the word func.
-	At         token.Pos
-	Body       *ast.BlockStmt
-	HasResults bool
-	// Broken: there is a syntax error inside, so that its statements can't be trusted.
-	Broken bool
-}
 
 // A Script is a file, or the text of some statements, as Go's parser reads it.
 type Script struct {
-	Name      string
-	Text      []byte
+	Name string
+	Text []byte
+	// Functions are in the order of their places.
 	Functions []Function
 	// Errors are the syntax errors, in the order of their places.
 	Errors []SyntaxError
 
-	file   *ast.File
-	tokens *token.File
 	fset   *token.FileSet
-	// before is how many bytes stand before the text in what was parsed.
-	before int
+	pieces []piece
 	lines  []int
 	panics map[*ast.CallExpr]bool
 }
@@ -46,6 +27,10 @@ type Script struct {
 type SyntaxError struct {
 	Position int
 	Message  string
+}
+
+func newScript(name string, text []byte) *Script {
+	return &Script{Name: name, Text: text, fset: token.NewFileSet(), lines: lineStarts(text)}
 }
 
 // Read parses the text: a file if it begins with a package clause, else a list of statements.
@@ -65,14 +50,22 @@ func isFile(text []byte) bool {
 	return first == token.PACKAGE
 }
 
-// ReadFile parses a Go file.
+// ReadFile parses a Go file. Where it has a syntax error each declaration is parsed by itself too, so that the error takes
+// no other function with it.
 func ReadFile(name string, text []byte) *Script {
-	s := parse(name, text, text, 0)
+	s := newScript(name, text)
+	whole := s.parse(0, len(text), "", "")
+	if len(whole.errors) == 0 {
+		s.pieces = []piece{whole}
+	} else {
+		s.parseDeclarations(whole.errors)
+	}
 	s.findFunctions()
 	s.findPanics()
 	return s
 }
 
+// What stands before and after a list of statements to make it a file.
 const (
 	header = "package p; func _() {"
 	footer = "\n}"
@@ -80,49 +73,27 @@ const (
 
 // ReadStatements parses a list of statements, with or without braces around it, as one body.
 func ReadStatements(name string, text []byte) *Script {
-	whole := append([]byte(header), text...)
-	s := parse(name, text, append(whole, footer...), len(header))
+	s := newScript(name, text)
+	s.pieces = []piece{s.parse(0, len(text), header, footer)}
+	s.Errors = s.pieces[0].errors
 	s.findFunctions()
 	s.keepStatements()
 	s.findPanics()
 	return s
 }
 
-func parse(name string, text, whole []byte, before int) *Script {
-	s := &Script{Name: name, Text: text, before: before, lines: lineStarts(text), fset: token.NewFileSet()}
-	file, err := parser.ParseFile(s.fset, name, whole, parser.AllErrors)
-	s.file = file
-	s.fset.Iterate(func(f *token.File) bool { s.tokens = f; return false })
-	s.addErrors(err)
-	return s
-}
-
-func (s *Script) addErrors(err error) {
-	var list scanner.ErrorList
-	if !errors.As(err, &list) {
-		return
-	}
-	for _, e := range list {
-		s.addError(e.Pos.Offset, e.Msg)
-	}
-}
-
-// addError notes an error at an offset of what was parsed.
-func (s *Script) addError(offset int, message string) {
-	s.Errors = append(s.Errors, SyntaxError{s.position(offset), message})
-}
-
 // keepStatements makes the statements the one body: the braces are those around the text, or none written. A brace that
 // closes the body before the text ends is an error.
 func (s *Script) keepStatements() {
-	if len(s.Functions) == 0 || len(s.Errors) > 0 {
-		s.breakAll()
+	if len(s.Functions) == 0 || s.Functions[0].Broken {
 		return
 	}
 	f := &s.Functions[0]
-	if end := s.before + len(s.Text); s.offset(f.Body.Rbrace) != end+len(footer)-1 {
-		s.addError(s.offset(f.Body.Rbrace), "a '}' without its '{'")
-		s.breakAll()
+	if s.offset(f.Body.Rbrace) != len(s.Text)+len(footer)-1 {
+		s.Errors = append(s.Errors, SyntaxError{s.Position(f.Body.Rbrace), "a '}' without its '{'"})
+		for i := range s.Functions {
+			s.Functions[i].Broken = true
+		}
 		return
 	}
 	f.Statements, f.At = true, f.Body.Lbrace
@@ -139,112 +110,30 @@ func onlyBlock(body *ast.BlockStmt) (*ast.BlockStmt, bool) {
 	return block, ok
 }
 
-func (s *Script) breakAll() {
-	for i := range s.Functions {
-		s.Functions[i].Broken = true
-	}
-}
-
-// findFunctions lists the functions and literals in the order of their places.
-func (s *Script) findFunctions() {
-	if s.file == nil {
-		return
-	}
-	for _, decl := range s.file.Decls {
-		name := "glob."
-		if f, ok := decl.(*ast.FuncDecl); ok {
-			name = functionName(f)
-			if f.Body != nil {
-				s.addFunction(Function{Name: name, At: f.Name.Pos(), Body: f.Body, HasResults: hasResults(f.Type)}, f)
-			}
-		}
-		s.findLiterals(decl, name+".func")
-	}
-	sort.SliceStable(s.Functions, func(i, j int) bool { return s.Functions[i].Body.Lbrace < s.Functions[j].Body.Lbrace })
-}
-
-// findLiterals lists the literals in the node, numbered from 1 on after the prefix; those inside a literal have a number
-// after a dot.
-func (s *Script) findLiterals(node ast.Node, prefix string) {
-	count := 0
-	ast.Inspect(node, func(n ast.Node) bool {
-		f, ok := n.(*ast.FuncLit)
-		if !ok {
-			return true
-		}
-		count++
-		name := prefix + strconv.Itoa(count)
-		s.addFunction(Function{Name: name, At: f.Pos(), Body: f.Body, HasResults: hasResults(f.Type)}, f)
-		s.findLiterals(f.Body, name+".")
-		return false
-	})
-}
-
-// addFunction notes the function, and whether there is a syntax error in it.
-func (s *Script) addFunction(f Function, node ast.Node) {
-	from, to := s.Position(node.Pos()), s.Position(node.End())
-	for _, e := range s.Errors {
-		f.Broken = f.Broken || (from <= e.Position && e.Position <= to)
-	}
-	s.Functions = append(s.Functions, f)
-	s.findBareGotos(len(s.Functions) - 1)
-}
-
-// findBareGotos notes each goto without a label, which go/parser lets through.
-func (s *Script) findBareGotos(function int) {
-	ast.Inspect(s.Functions[function].Body, func(n ast.Node) bool {
-		if _, ok := n.(*ast.FuncLit); ok {
-			return false
-		}
-		if b, ok := n.(*ast.BranchStmt); ok && b.Tok == token.GOTO && b.Label == nil {
-			s.addError(s.offset(b.TokPos), "goto needs a label")
-			s.Functions[function].Broken = true
-		}
-		return true
-	})
-}
-
-func hasResults(t *ast.FuncType) bool { return t.Results != nil && len(t.Results.List) > 0 }
-
-func functionName(f *ast.FuncDecl) string {
-	if f.Recv == nil || len(f.Recv.List) == 0 {
-		return f.Name.Name
-	}
-	return receiverName(f.Recv.List[0].Type) + "." + f.Name.Name
-}
-
-func receiverName(t ast.Expr) string {
-	switch t := t.(type) {
-	case *ast.Ident:
-		return t.Name
-	case *ast.StarExpr:
-		return receiverName(t.X)
-	case *ast.ParenExpr:
-		return receiverName(t.X)
-	case *ast.IndexExpr:
-		return receiverName(t.X)
-	case *ast.IndexListExpr:
-		return receiverName(t.X)
-	}
-	return "_"
-}
+// HasStatements tells whether the script is a list of statements and no file.
+func (s *Script) HasStatements() bool { return len(s.Functions) > 0 && s.Functions[0].Statements }
 
 // Position is the number of a place: 1 + the byte's place in the text. Row 0 of statements without braces has 1; what ends
 // past the text, as a function cut off by a syntax error does, ends with it.
 func (s *Script) Position(p token.Pos) int { return s.position(s.offset(p)) }
 
-// offset is the byte's place in what was parsed.
-func (s *Script) offset(p token.Pos) int { return int(p) - s.tokens.Base() }
-
 func (s *Script) position(offset int) int {
-	position := offset - s.before + 1
-	if position > len(s.Text)+1 {
-		position = len(s.Text) + 1
+	switch {
+	case offset < 0:
+		return 1
+	case offset > len(s.Text):
+		return len(s.Text) + 1
 	}
-	if position < 1 {
-		position = 1
+	return offset + 1
+}
+
+// offset is the byte's place in the text.
+func (s *Script) offset(p token.Pos) int {
+	i := sort.Search(len(s.pieces), func(i int) bool { return token.Pos(s.pieces[i].tokens.Base()) > p }) - 1
+	if i < 0 {
+		return 0
 	}
-	return position
+	return s.pieces[i].offset(int(p) - s.pieces[i].tokens.Base())
 }
 
 // Place is the line and the column of a position, both from 1, the column in bytes.
@@ -264,6 +153,3 @@ func lineStarts(text []byte) []int {
 	}
 	return starts
 }
-
-// HasStatements tells whether the script is a list of statements and no file.
-func (s *Script) HasStatements() bool { return len(s.Functions) > 0 && s.Functions[0].Statements }
