@@ -32,7 +32,9 @@ type source struct {
 
 // An outcome is what marking a script gave: its text, and what the log and the exit code need.
 type outcome struct {
-	text  []byte
+	text []byte
+	// aside is what is told on standard error: of -json, what no object tells
+	aside []byte
 	entry scriptlog.Entry
 	code  int
 	err   error
@@ -46,8 +48,8 @@ func markCommand(args []string, in io.Reader, out, errors io.Writer) int {
 	flags.BoolVar(&o.verbose, "v", false, "")
 	flags.BoolVar(&o.json, "json", false, "")
 	flags.StringVar(&o.log, "log", "", "")
-	if flags.Parse(args) != nil {
-		return unread
+	if err := flags.Parse(args); err != nil {
+		return parseCode(err)
 	}
 	if flags.NArg() == 0 {
 		fmt.Fprintln(errors, "zesthull mark: which files?")
@@ -59,6 +61,14 @@ func markCommand(args []string, in io.Reader, out, errors io.Writer) int {
 	}
 	c.markAll()
 	return c.code
+}
+
+// parseCode is the exit code where the flags end the run: they asked for help, or were wrong.
+func parseCode(err error) int {
+	if err == flag.ErrHelp {
+		return clean
+	}
+	return unread
 }
 
 // marking is one run of the command.
@@ -81,11 +91,11 @@ func (c *marking) raise(code int) {
 	}
 }
 
-// collect lists what an argument stands for. A folder stands for all files below it whose names end in .go, but for those in
-// folders whose names begin with a dot.
+// collect lists what an argument stands for. A folder stands for all files below it whose names end in .go, but for files
+// and folders whose names begin with a dot.
 func (c *marking) collect(arg string, in io.Reader) {
 	if arg == "-" {
-		c.sources = append(c.sources, source{"<standard input>", in})
+		c.collectInput(in)
 		return
 	}
 	info, err := os.Stat(arg)
@@ -98,25 +108,49 @@ func (c *marking) collect(arg string, in io.Reader) {
 		return
 	}
 	before := len(c.sources)
-	err = filepath.WalkDir(arg, func(path string, entry os.DirEntry, err error) error {
-		if err != nil {
-			c.complain(unread, err)
-			return nil
-		}
-		if entry.IsDir() && path != arg && entry.Name()[0] == '.' {
-			return filepath.SkipDir
-		}
-		if !entry.IsDir() && filepath.Ext(path) == ".go" {
-			c.sources = append(c.sources, source{name: path})
-		}
-		return nil
-	})
-	if err != nil {
-		c.complain(unread, err)
-	}
+	c.walk(arg)
 	if len(c.sources) == before {
 		c.complain(unread, "no .go file below", arg)
 	}
+}
+
+// collectFile lists a file below a folder, or a link to one; what is no regular file, as a pipe, is left out.
+func (c *marking) collectFile(path string) {
+	info, err := os.Stat(path)
+	if err != nil {
+		c.complain(unread, err)
+	} else if info.Mode().IsRegular() {
+		c.sources = append(c.sources, source{name: path})
+	}
+}
+
+// collectInput lists standard input, which can be read once.
+func (c *marking) collectInput(in io.Reader) {
+	for _, s := range c.sources {
+		if s.stdin != nil {
+			c.complain(unread, "- stands for standard input, and is given twice")
+			return
+		}
+	}
+	c.sources = append(c.sources, source{"<standard input>", in})
+}
+
+// walk lists the files below a folder, which may be named by a link.
+func (c *marking) walk(folder string) {
+	root := folder + string(filepath.Separator) + "."
+	filepath.WalkDir(root, func(path string, entry os.DirEntry, err error) error {
+		switch {
+		case err != nil:
+			c.complain(unread, err)
+		case path != root && entry.Name()[0] == '.':
+			if entry.IsDir() {
+				return filepath.SkipDir
+			}
+		case !entry.IsDir() && filepath.Ext(path) == ".go":
+			c.collectFile(path)
+		}
+		return nil
+	})
 }
 
 // markAll marks the sources, several at a time, and tells them in their order.
@@ -151,6 +185,7 @@ func (c *marking) tell(o outcome) {
 	}
 	c.raise(o.code)
 	c.out.Write(o.text)
+	c.errors.Write(o.aside)
 	if c.log != "" {
 		if err := scriptlog.Append(c.log, o.entry); err != nil {
 			c.complain(unread, "the log:", err)
@@ -171,7 +206,13 @@ func (c *marking) markOne(s source) outcome {
 	}
 	r := mark.Script(read)
 	entry := scriptlog.Entry{Time: time.Now(), Version: calls.Version(), Sum: sha256.Sum256(text), Name: s.name, Counts: r.Counts()}
-	return outcome{text: c.render(r), entry: entry, code: exitCode(r)}
+	o := outcome{entry: entry, code: exitCode(r)}
+	if c.json {
+		o.text, o.aside = renderJSON(r), renderUnmarked(r)
+	} else {
+		o.text = c.render(r)
+	}
+	return o
 }
 
 func (s source) read() ([]byte, error) {

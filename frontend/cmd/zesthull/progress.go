@@ -5,7 +5,9 @@ import (
 	"io"
 	"os"
 	"sync/atomic"
+	"syscall"
 	"time"
+	"unsafe"
 )
 
 const (
@@ -42,7 +44,9 @@ func progress(errors io.Writer, done *atomic.Int64, all int) (stop func()) {
 	return func() { close(ended); <-over }
 }
 
+// isTerminal asks the system for the terminal's settings, which nothing else has.
 func isTerminal(file *os.File) bool {
-	info, err := file.Stat()
-	return err == nil && info.Mode()&os.ModeCharDevice != 0
+	var settings syscall.Termios
+	_, _, failed := syscall.Syscall(syscall.SYS_IOCTL, file.Fd(), syscall.TCGETS, uintptr(unsafe.Pointer(&settings)))
+	return failed == 0
 }

@@ -11,15 +11,25 @@ import (
 
 // render is what is printed for a script.
 func (c *marking) render(r *mark.Result) []byte {
-	var text bytes.Buffer
-	if c.json {
-		renderJSON(&text, r)
-		return text.Bytes()
-	}
-	findings := r.Findings
 	if c.verbose {
-		findings = withVerdicts(r)
+		return lines(r, withVerdicts(r))
 	}
+	return lines(r, r.Findings)
+}
+
+// renderUnmarked is what -json tells beside its objects: syntax errors and refusals.
+func renderUnmarked(r *mark.Result) []byte {
+	var list []mark.Finding
+	for _, f := range r.Findings {
+		if f.Kind == mark.Syntax || f.Kind == mark.Refused {
+			list = append(list, f)
+		}
+	}
+	return lines(r, list)
+}
+
+func lines(r *mark.Result, findings []mark.Finding) []byte {
+	var text bytes.Buffer
 	for _, f := range findings {
 		line, column := r.Place(f.Position)
 		fmt.Fprintf(&text, "%s:%d:%d: %s\n", r.Name, line, column, f.Message)
@@ -60,27 +70,40 @@ type bodyObject struct {
 	Names   []string `json:"names"`
 	Places  [][2]int `json:"places"`
 	Results bool     `json:"results"`
-	// of a body that is marked
-	Sheet    [][4]uint32 `json:"sheet,omitempty"`
-	Bindings []uint32    `json:"bindings,omitempty"`
-	Placing  []int       `json:"placing,omitempty"`
-	Verdict  *bool       `json:"verdict,omitempty"`
-	// of one that isn't
-	Refused *[2]int  `json:"refused,omitempty"`
-	Errors  []string `json:"errors,omitempty"`
+	// of a body that is marked; placing has all rows badly placed
+	Sheet    [][4]uint32 `json:"sheet"`
+	Bindings []uint32    `json:"bindings"`
+	Placing  []int       `json:"placing"`
+	Verdict  *bool       `json:"verdict"`
+	// of one that isn't: the refusal's number and index, or that there is a syntax error
+	Refused *[2]int `json:"refused,omitempty"`
+	Broken  bool    `json:"broken,omitempty"`
 }
 
-func renderJSON(text *bytes.Buffer, r *mark.Result) {
-	encoder := json.NewEncoder(text)
+func renderJSON(r *mark.Result) []byte {
+	var text bytes.Buffer
+	encoder := json.NewEncoder(&text)
 	encoder.SetEscapeHTML(false)
 	for i := range r.Bodies {
 		encoder.Encode(object(r, &r.Bodies[i]))
 	}
+	return text.Bytes()
+}
+
+// name is that of the function; statements have none.
+func name(b *mark.Body) string {
+	if b.Function.Statements {
+		return ""
+	}
+	return b.Function.Name
 }
 
 func object(r *mark.Result, b *mark.Body) bodyObject {
 	line, column := r.Place(r.Position(b.Function.At))
-	o := bodyObject{File: r.Name, Func: b.Function.Name, Line: line, Column: column, Names: b.Names, Results: b.Function.HasResults}
+	o := bodyObject{File: r.Name, Func: name(b), Line: line, Column: column, Results: b.Function.HasResults, Broken: b.Function.Broken}
+	o.Names = append([]string{}, b.Names...)
+	o.Rows, o.Places, o.Sheet = [][5]int{}, [][2]int{}, [][4]uint32{}
+	o.Bindings, o.Placing = append([]uint32{}, b.Marks.Bindings...), append([]int{}, b.Misplaced...)
 	for _, row := range b.Rows {
 		line, column := r.Place(row.Position)
 		o.Rows = append(o.Rows, [5]int{row.Kind, row.Detail, row.Position, row.Name, row.Size})
@@ -95,6 +118,6 @@ func object(r *mark.Result, b *mark.Body) bodyObject {
 	for _, f := range b.Marks.Sheet {
 		o.Sheet = append(o.Sheet, [4]uint32{f.Code, f.Position, f.Name, f.Other})
 	}
-	o.Bindings, o.Placing, o.Verdict = b.Marks.Bindings, b.Misplaced, &b.Marks.Terminating
+	o.Verdict = &b.Marks.Terminating
 	return o
 }

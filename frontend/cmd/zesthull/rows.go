@@ -20,15 +20,15 @@ func rowsCommand(args []string, in io.Reader, out, errors io.Writer) int {
 	flags.Usage = func() { fmt.Fprint(errors, usage) }
 	list := flags.Bool("list", false, "")
 	name := flags.String("func", "", "")
-	text := flags.String("e", "", "")
-	if flags.Parse(args) != nil {
-		return unread
+	given := flags.String("e", "", "")
+	if err := flags.Parse(args); err != nil {
+		return parseCode(err)
 	}
 	fail := func(values ...any) int {
 		fmt.Fprintln(errors, append([]any{"zesthull rows:"}, values...)...)
 		return unread
 	}
-	s, err := rowsSource(flags, *text, in)
+	s, err := rowsSource(flags, *given, in)
 	if err != nil {
 		return fail(err)
 	}
@@ -36,14 +36,13 @@ func rowsCommand(args []string, in io.Reader, out, errors io.Writer) int {
 	if err != nil {
 		return fail(err)
 	}
+	text := bodyFile(b.Body)
 	if *list {
-		printRows(out, b.Body)
-		return clean
-	}
-	if file, ok := out.(*os.File); ok && isTerminal(file) {
+		text = listing(b.Body)
+	} else if file, ok := out.(*os.File); ok && isTerminal(file) {
 		return fail("a body file isn't for a terminal: write it to a file or a pipe, or add -list")
 	}
-	if _, err := out.Write(bodyFile(b.Body)); err != nil {
+	if _, err := out.Write(text); err != nil {
 		return fail(err)
 	}
 	return clean
@@ -82,8 +81,10 @@ func theBody(r *mark.Result, name string) (*mark.Body, error) {
 		}
 	}
 	switch {
-	case len(found) == 0 || len(found) == 1 && !found[0].Marked():
-		return nil, whyNone(r, name)
+	case len(found) == 0 && name != "":
+		return nil, fmt.Errorf("%s has no function %s", r.Name, name)
+	case len(found) == 0 || !found[0].Marked():
+		return nil, whyNone(r)
 	case len(found) > 1:
 		return nil, fmt.Errorf("%s has %d bodies; -func says which: %s", r.Name, len(found), names(found))
 	}
@@ -103,18 +104,15 @@ func names(bodies []*mark.Body) (list string) {
 	return list
 }
 
-// whyNone says what stands in the way: the first error of the text, or that there is no such function.
-func whyNone(r *mark.Result, name string) error {
+// whyNone says what stands in the way: the first error of the text, or that there is no function.
+func whyNone(r *mark.Result) error {
 	for _, f := range r.Findings {
 		if f.Kind == mark.Syntax || f.Kind == mark.Refused {
 			line, column := r.Place(f.Position)
 			return fmt.Errorf("%s:%d:%d: %s", r.Name, line, column, f.Message)
 		}
 	}
-	if name == "" {
-		return fmt.Errorf("%s has no function", r.Name)
-	}
-	return fmt.Errorf("%s has no function %s", r.Name, name)
+	return fmt.Errorf("%s has no function", r.Name)
 }
 
 // bodyFile is the file that the program marks reads: three counts, rows, pairs, name bytes; words are little-endian.
@@ -129,13 +127,15 @@ func bodyFile(b rows.Body) []byte {
 	return file.Bytes()
 }
 
-// printRows lists the rows, a line each.
-func printRows(out io.Writer, b rows.Body) {
+// listing has the rows, a line each.
+func listing(b rows.Body) []byte {
+	var text bytes.Buffer
 	for i, r := range b.Rows {
-		fmt.Fprintf(out, "%4d %-10s %d at %d size %d", i, rows.Kinds[r.Kind], r.Detail, r.Position, r.Size)
+		fmt.Fprintf(&text, "%4d %-10s %d at %d size %d", i, rows.Kinds[r.Kind], r.Detail, r.Position, r.Size)
 		if r.Name > 0 {
-			fmt.Fprintf(out, " %s", b.Names[r.Name-1])
+			fmt.Fprintf(&text, " %s", b.Names[r.Name-1])
 		}
-		fmt.Fprintln(out)
+		text.WriteByte('\n')
 	}
+	return text.Bytes()
 }

@@ -50,7 +50,7 @@ func (r *Result) label(b *Body) {
 
 const otherDeclaration = 2
 
-// faultMessage says a fault in the words of Go's compiler.
+// faultMessage says a fault in the words of Go's tools.
 func (r *Result) faultMessage(b *Body, f calls.Fault) string {
 	label := b.Names[f.Name-1]
 	switch f.Code {
@@ -127,7 +127,7 @@ func (r *Result) missingReturn(b *Body) {
 }
 
 func (r *Result) refused(b *Body) {
-	r.find(Refused, r.Position(b.Function.At), "%s is not marked: %s", b.Title(), refusalMessage(b))
+	r.find(Refused, r.Position(b.Function.At), "%s: not marked: %s", b.Title(), refusalMessage(b))
 }
 
 // refusalMessage says a refusal in words. Rows made from Go's syntax tree get 1, 2 and 6 alone.

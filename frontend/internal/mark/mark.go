@@ -35,7 +35,7 @@ type Result struct {
 func Script(s *script.Script) *Result {
 	r := &Result{Script: s}
 	for _, e := range s.Errors {
-		r.find(Syntax, e.Position, e.Message)
+		r.find(Syntax, e.Position, "%s", e.Message)
 	}
 	for _, f := range s.Functions {
 		b := body(s, f)

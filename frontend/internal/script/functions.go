@@ -65,6 +65,7 @@ func (s *Script) findLiterals(node ast.Node, prefix string, broken bool, count *
 		name := prefix + strconv.Itoa(*count)
 		s.Functions = append(s.Functions, Function{Name: name, At: f.Pos(), Body: f.Body, HasResults: hasResults(f.Type), Broken: broken})
 		s.findLiterals(f.Body, name+".", broken, new(int))
+		s.findLiterals(f.Type, prefix, broken, count)
 		return false
 	})
 }

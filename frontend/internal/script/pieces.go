@@ -35,9 +35,21 @@ func (s *Script) parse(start, end int, before, after string) piece {
 			p.errors = append(p.errors, SyntaxError{s.position(p.offset(e.Pos.Offset)), e.Msg})
 		}
 	}
-	p.errors = append(p.errors, s.bareGotos(p)...)
-	sort.SliceStable(p.errors, func(i, j int) bool { return p.errors[i].Position < p.errors[j].Position })
+	p.errors = inOrder(append(p.errors, s.bareGotos(p)...))
 	return p
+}
+
+// inOrder sorts the errors by their places, and tells none twice.
+func inOrder(list []SyntaxError) (sorted []SyntaxError) {
+	sort.SliceStable(list, func(i, j int) bool { return list[i].Position < list[j].Position })
+	told := map[SyntaxError]bool{}
+	for _, e := range list {
+		if !told[e] {
+			sorted = append(sorted, e)
+			told[e] = true
+		}
+	}
+	return sorted
 }
 
 // bareGotos has an error for each goto without a label, which go/parser lets through.
@@ -75,6 +87,7 @@ func (s *Script) parseDeclarations(whole []SyntaxError) {
 		}
 		s.Errors = append(s.Errors, here...)
 	}
+	s.Errors = inOrder(s.Errors)
 }
 
 // upTo divides the errors, which are in the order of their places: those before the offset, and the others.
@@ -90,21 +103,75 @@ func min(a, b int) int {
 	return b
 }
 
-// declarationStarts are the places of the words that begin a declaration at the beginning of a line.
-func (s *Script) declarationStarts() (starts []int) {
+// A word is a token and its offset in the text.
+type word struct {
+	token  token.Token
+	offset int
+}
+
+// words are the tokens of the text, and EOF.
+func (s *Script) words() (list []word) {
 	var scan scanner.Scanner
-	fset := token.NewFileSet()
-	file := fset.AddFile("", fset.Base(), len(s.Text))
+	file := token.NewFileSet().AddFile("", 1, len(s.Text))
 	scan.Init(file, s.Text, func(token.Position, string) {}, 0)
 	for {
 		p, t, _ := scan.Scan()
-		switch t {
-		case token.EOF:
-			return starts
-		case token.FUNC, token.VAR, token.CONST, token.TYPE, token.IMPORT:
-			if at := file.Offset(p); at == 0 || s.Text[at-1] == '\n' {
-				starts = append(starts, at)
-			}
+		list = append(list, word{t, file.Offset(p)})
+		if t == token.EOF {
+			return list
 		}
 	}
+}
+
+// declarationStarts are the places where a declaration begins: a func with a name and parameters, which stands nowhere else;
+// and another declaration's word at the beginning of a line where no bracket is open since the last start.
+func (s *Script) declarationStarts() (starts []int) {
+	list, open := s.words(), 0
+	for i, w := range list {
+		open += bracket(w.token)
+		first := w.offset == 0 || s.Text[w.offset-1] == '\n'
+		if namesFunction(list[i:]) || first && open <= 0 && declares(w.token) {
+			starts = append(starts, w.offset)
+			open = 0
+		}
+	}
+	return starts
+}
+
+func bracket(t token.Token) int {
+	switch t {
+	case token.LBRACE, token.LPAREN, token.LBRACK:
+		return 1
+	case token.RBRACE, token.RPAREN, token.RBRACK:
+		return -1
+	}
+	return 0
+}
+
+func declares(t token.Token) bool {
+	return t == token.VAR || t == token.CONST || t == token.TYPE || t == token.IMPORT
+}
+
+// namesFunction tells whether the words begin with func, a receiver or none, a name, and a bracket.
+func namesFunction(list []word) bool {
+	if list[0].token != token.FUNC {
+		return false
+	}
+	list = list[1:]
+	if list[0].token == token.LPAREN {
+		list = afterBrackets(list)
+	}
+	return len(list) > 1 && list[0].token == token.IDENT && (list[1].token == token.LPAREN || list[1].token == token.LBRACK)
+}
+
+// afterBrackets are the words after the bracket that closes the first.
+func afterBrackets(list []word) []word {
+	open := 0
+	for i, w := range list {
+		open += bracket(w.token)
+		if open == 0 {
+			return list[i+1:]
+		}
+	}
+	return nil
 }

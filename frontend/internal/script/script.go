@@ -2,6 +2,7 @@
 package script
 
 import (
+	"bytes"
 	"go/ast"
 	"go/scanner"
 	"go/token"
@@ -74,7 +75,7 @@ const (
 // ReadStatements parses a list of statements, with or without braces around it, as one body.
 func ReadStatements(name string, text []byte) *Script {
 	s := newScript(name, text)
-	s.pieces = []piece{s.parse(0, len(text), header, footer)}
+	s.pieces = []piece{s.parse(len(byteOrderMark(text)), len(text), header, footer)}
 	s.Errors = s.pieces[0].errors
 	s.findFunctions()
 	s.keepStatements()
@@ -82,18 +83,30 @@ func ReadStatements(name string, text []byte) *Script {
 	return s
 }
 
+// byteOrderMark is the mark at the start of the text, which go/parser passes over in a file; or nothing.
+func byteOrderMark(text []byte) []byte {
+	mark := []byte("\uFEFF")
+	if bytes.HasPrefix(text, mark) {
+		return mark
+	}
+	return nil
+}
+
 // keepStatements makes the statements the one body: the braces are those around the text, or none written. A brace that
 // closes the body before the text ends is an error.
 func (s *Script) keepStatements() {
-	if len(s.Functions) == 0 || s.Functions[0].Broken {
+	if len(s.Functions) == 0 {
 		return
 	}
 	f := &s.Functions[0]
-	if s.offset(f.Body.Rbrace) != len(s.Text)+len(footer)-1 {
-		s.Errors = append(s.Errors, SyntaxError{s.Position(f.Body.Rbrace), "a '}' without its '{'"})
+	if end := s.offset(f.Body.Rbrace); f.Body.Rbrace.IsValid() && end < len(s.Text) {
+		before, _ := upTo(s.Errors, end)
+		s.Errors = append(before, SyntaxError{s.position(end), "a '}' without its '{'"})
 		for i := range s.Functions {
 			s.Functions[i].Broken = true
 		}
+	}
+	if f.Broken {
 		return
 	}
 	f.Statements, f.At = true, f.Body.Lbrace
@@ -143,11 +156,11 @@ func (s *Script) Place(position int) (line, column int) {
 	return line, offset - s.lines[line-1] + 1
 }
 
-// lineStarts are the offsets at which the lines of the text begin.
+// lineStarts are the offsets at which the lines of the text begin. As for Go's tools, the end of the text begins none.
 func lineStarts(text []byte) []int {
 	starts := []int{0}
 	for i, b := range text {
-		if b == '\n' {
+		if b == '\n' && i+1 < len(text) {
 			starts = append(starts, i+1)
 		}
 	}

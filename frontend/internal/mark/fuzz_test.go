@@ -1,0 +1,58 @@
+package mark
+
+import (
+	"testing"
+
+	"zesthull/internal/script"
+)
+
+// Any text is marked without a crash, and what is found hangs together. `go test` tries the texts of the other tests;
+// `go test -fuzz FuzzScript` makes more of them.
+func FuzzScript(f *testing.F) {
+	for _, text := range append(terminating, going...) {
+		f.Add([]byte(text))
+		f.Add([]byte("package p\n\nfunc f() int {\n" + text + "\n}\n"))
+	}
+	f.Fuzz(func(t *testing.T, text []byte) {
+		checkResult(t, Script(script.Read("x.go", text)))
+	})
+}
+
+func checkResult(t *testing.T, r *Result) {
+	t.Helper()
+	last := 1
+	for _, f := range r.Findings {
+		if f.Position < last || f.Position > len(r.Text)+1 || f.Message == "" {
+			t.Errorf("%q at %d, after a finding at %d", f.Message, f.Position, last)
+		}
+		last = f.Position
+		if line, column := r.Place(f.Position); line < 1 || column < 1 {
+			t.Errorf("%q at %d:%d", f.Message, line, column)
+		}
+	}
+	for i := range r.Bodies {
+		checkBody(t, &r.Bodies[i])
+	}
+}
+
+// checkBody: rows of a syntax tree are refused with 1, 2 and 6 alone, and the first row badly placed heads the list.
+func checkBody(t *testing.T, b *Body) {
+	t.Helper()
+	if b.Refusal != nil {
+		if n := b.Refusal.Number; n != 1 && n != 2 && n != 6 {
+			t.Errorf("%s: %v", b.Function.Name, b.Refusal)
+		}
+		return
+	}
+	if !b.Marked() {
+		return
+	}
+	first := -1
+	if len(b.Misplaced) > 0 {
+		first = b.Misplaced[0]
+	}
+	if first != b.Marks.Misplaced || len(b.Marks.Bindings) != len(b.Rows) {
+		t.Errorf("%s: misplaced %d, the first %d; %d bindings for %d rows", b.Function.Name, b.Misplaced, b.Marks.Misplaced,
+			len(b.Marks.Bindings), len(b.Rows))
+	}
+}
