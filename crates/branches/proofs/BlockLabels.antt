@@ -30,7 +30,7 @@ use Rattle.rules.proofs.Around.{around-true, true-around, Innermost, innermost-
 use Rattle.rules.proofs.LabelRows.{is-labels}
 use Rattle.branches.specs.Walk.{currentLabel}
 use Rattle.tables.specs.Canon.{rowCanon}
-use Rattle.tables.proofs.Labelling.{label-class, labels-canon, body-end}
+use Rattle.tables.proofs.Labelling.{label-class, labels-canon}
 
 -- ---- rules of the classes
 
@@ -70,15 +70,15 @@ module _ (w p b : List ℕ) (t : ℕ) where
     pub inside : s < end w t
     pub statement : class w s ≡ labeled → ⊥
     pub run : (k : ℕ) → t < k → k < s → class w k ≡ labeled
-    pub last : (k : ℕ) → t < k → k < s → isLabel w p b 0 k ≡ false
+    pub last : (k : ℕ) → t < k → k < s → isLabel w p b k ≡ false
 
   abbrev leaves : ℕ → Bool
   leaves k = ltb t k && not (isClass w labeled k)
 
   abbrev follows : ℕ → Bool
-  follows k = ltb t k && isLabel w p b 0 k
+  follows k = ltb t k && isLabel w p b k
 
-  pub is-last : lastInRun w p b 0 t ≡ true → (s : ℕ) × LastInRun s
+  pub is-last : lastInRun w p b t ≡ true → (s : ℕ) × LastInRun s
   unfolding lastInRun
   is-last v = case-found (lowest leaves (end w t))
       (λ s e.
@@ -100,7 +100,7 @@ module _ (w p b : List ℕ) (t : ℕ) where
       ))
       (λ e. let z : false ≡ true = rw (e, lastInRun) at v in absurd (clash (cc)))
 
-  pub last-is : (s : ℕ) → LastInRun s → lastInRun w p b 0 t ≡ true
+  pub last-is : (s : ℕ) → LastInRun s → lastInRun w p b t ≡ true
   unfolding lastInRun
   last-is s x =
       let e = found-lowest leaves (end w t) s (x .inside) (rw (lt-ltb t s (x .after), one-not (class w s) labeled (x .statement)))
@@ -112,24 +112,24 @@ module _ (w p b : List ℕ) (t : ℕ) where
 module _ (w p b : List ℕ) (k : ℕ) where
   -- t is the innermost label around k in its list l
   pub record Current (t l : ℕ) : Type 0 where
-    pub listed : listOf w 0 k ≡ some l
+    pub listed : listOf w k ≡ some l
     pub after : l < t
     pub before : t < k
-    pub labeled-row : isLabel w p b 0 t ≡ true
+    pub labeled-row : isLabel w p b t ≡ true
     pub reaches : k < end w t
-    pub last : (j : ℕ) → t < j → j < k → isLabel w p b 0 j ≡ true → k < end w j → ⊥
+    pub last : (j : ℕ) → t < j → j < k → isLabel w p b j ≡ true → k < end w j → ⊥
 
   abbrev carries : ℕ → ℕ → Bool
-  carries l t = ltb l t && (isLabel w p b 0 t && ltb k (end w t))
+  carries l t = ltb l t && (isLabel w p b t && ltb k (end w t))
 
   pub is-current : (t : ℕ) → currentLabel w p b k ≡ some t → (l : ℕ) × Current t l
   unfolding currentLabel
-  is-current t e = case-found (listOf w 0 k)
+  is-current t e = case-found (listOf w k)
       (λ l f.
       let g : highest (carries l) k ≡ some t = rw (f, currentLabel) at e in
       let h = highest-found (carries l) k t g in
-      let a = and-true (ltb l t) (isLabel w p b 0 t && ltb k (end w t)) (h .1) in
-      let c = and-true (isLabel w p b 0 t) (ltb k (end w t)) (a .1) in
+      let a = and-true (ltb l t) (isLabel w p b t && ltb k (end w t)) (h .1) in
+      let c = and-true (isLabel w p b t) (ltb k (end w t)) (a .1) in
       let after = ltb-true l t (a .0) in (
         l,
         record {
@@ -151,28 +151,28 @@ module _ (w p b : List ℕ) (k : ℕ) where
       let e = found-highest (carries l) k t (x .before) (rw (lt-ltb l t (x .after), x .labeled-row, lt-ltb k (end w t) (x .reaches)))
       (λ j i m. case-of (carries l j)
       (λ u.
-      let a = and-true (ltb l j) (isLabel w p b 0 j && ltb k (end w j)) u in
-      let c = and-true (isLabel w p b 0 j) (ltb k (end w j)) (a .1) in
+      let a = and-true (ltb l j) (isLabel w p b j && ltb k (end w j)) u in
+      let c = and-true (isLabel w p b j) (ltb k (end w j)) (a .1) in
       absurd (x .last j i m (c .0) (ltb-true k (end w j) (c .1))))
       (λ u. u)) in
       rw (x .listed, e, currentLabel)
 
 -- ---- inBlockOf
 module _ (w p b : List ℕ) (t g : ℕ) where
-  is-in-block : inBlockOf w p b 0 t g ≡ true → (k : ℕ) × (t < k) × Innermost w 0 isBlock g k
+  is-in-block : inBlockOf w p b t g ≡ true → (k : ℕ) × (t < k) × Innermost w isBlock g k
   unfolding inBlockOf
-  is-in-block v = case-found (innermost w 0 isBlock g)
-      (λ k e. let u : ltb t k ≡ true = rw (e, inBlockOf) at v in (k, ltb-true t k u, innermost-found w 0 isBlock g k e))
+  is-in-block v = case-found (innermost w isBlock g)
+      (λ k e. let u : ltb t k ≡ true = rw (e, inBlockOf) at v in (k, ltb-true t k u, innermost-found w isBlock g k e))
       (λ e. let z : false ≡ true = rw (e, inBlockOf) at v in absurd (clash (cc)))
 
-  in-block-is : (k : ℕ) → t < k → Innermost w 0 isBlock g k → inBlockOf w p b 0 t g ≡ true
+  in-block-is : (k : ℕ) → t < k → Innermost w isBlock g k → inBlockOf w p b t g ≡ true
   unfolding inBlockOf
-  in-block-is k h i = case-found (innermost w 0 isBlock g)
+  in-block-is k h i = case-found (innermost w isBlock g)
       (λ q e. elim (decLt q k) [
-        | yes l ↦ absurd (innermost-last w 0 isBlock g q k e l i)
+        | yes l ↦ absurd (innermost-last w isBlock g q k e l i)
         | no n ↦ rw (e, inBlockOf) (lt-ltb t q (omega arith))
       ])
-      (λ e. absurd (innermost-none w 0 isBlock g k e i))
+      (λ e. absurd (innermost-none w isBlock g k e i))
 
 module _ {w p b : List ℕ} (body : Body w p b) where
   -- ---- rows around rows
@@ -248,13 +248,13 @@ module _ {w p b : List ℕ} (body : Body w p b) where
         let (r, y, i, h, z) = clause-home t q (omega arith) c a (omega arith) u v in
         first r i (omega arith) (record { blocks = y; before = omega arith; reaches = omega (arith, body .nested r q (omega arith) h z) }))
 
-    current-first : isLabel w p b 0 t ≡ true → (s : ℕ) → LastInRun w p b t s → currentLabel w p b k ≡ some t
+    current-first : isLabel w p b t ≡ true → (s : ℕ) → LastInRun w p b t s → currentLabel w p b k ≡ some t
     unfolding listOf
     current-first label s x =
         let before = around-g .before in
-        case-found (listOf w 0 k)
+        case-found (listOf w k)
         (λ q e.
-        let i = innermost-found w 0 isList k q e in
+        let i = innermost-found w isList k q e in
         current-is w p b k t q (record {
           listed = e;
           after = elim (decLt q t) [
@@ -270,10 +270,10 @@ module _ {w p b : List ℕ} (body : Body w p b) where
           last = λ j a m u v. last j a m u v;
         }))
         (λ e.
-        absurd (innermost-none w 0 isList k 0 e
-        (record { before = omega arith; from = omega arith; reaches = omega (arith, body-end body); passes = rw (body .root-class) })))
+        absurd (innermost-none w isList k 0 e
+        (record { before = omega arith; reaches = omega arith; passes = rw (body .root-class) })))
       where
-        last : (j : ℕ) → t < j → j < k → isLabel w p b 0 j ≡ true → k < end w j → ⊥
+        last : (j : ℕ) → t < j → j < k → isLabel w p b j ≡ true → k < end w j → ⊥
         last j a m u v =
             let before = around-g .before in
             let cj = label-class body j (omega arith) u in
@@ -292,9 +292,9 @@ module _ {w p b : List ℕ} (body : Body w p b) where
   pub record Encloses (g t : ℕ) : Type 0 where
     pub before : t < g
     pub inside : g < end w t
-    pub labeled-row : isLabel w p b 0 t ≡ true
-    pub last : lastInRun w p b 0 t ≡ true
-    pub in-block : inBlockOf w p b 0 t g ≡ true
+    pub labeled-row : isLabel w p b t ≡ true
+    pub last : lastInRun w p b t ≡ true
+    pub in-block : inBlockOf w p b t g ≡ true
 
   abbrev opens : ℕ → ℕ → ℕ → Bool
   opens g t j = ltb t j && (isBlock (class w j) && ltb g (end w j))
@@ -341,7 +341,7 @@ module _ {w p b : List ℕ} (body : Body w p b) where
         before = omega arith;
         inside = omega (arith, body .nested t k (omega arith) after (x .reaches), a .reaches);
         labeled-row = x .labeled-row;
-        in-block = in-block-is w p b t g k after (record { before = before; from = omega arith; reaches = a .reaches; passes = a .blocks });
+        in-block = in-block-is w p b t g k after (record { before = before; reaches = a .reaches; passes = a .blocks });
         last = case-found (lowest (leaves w p b t) (end w t))
             (λ s f.
             let found = lowest-found (leaves w p b t) (end w t) s f in
@@ -357,7 +357,7 @@ module _ {w p b : List ℕ} (body : Body w p b) where
               inside = found .0;
               statement = λ z. clash (cc (not-true (isClass w labeled s) (parts .1), one-is (class w s) labeled z));
               run = run;
-              last = λ j h m. case-of (isLabel w p b 0 j)
+              last = λ j h m. case-of (isLabel w p b j)
                   (λ u.
                   let ends = chain t j (omega arith) (omega arith) (λ q i o. elim (ℕ-discrete t q) [ yes z ↦ rw z at c | no r ↦ run q (omega arith) (omega arith) ]) in
                   absurd (x .last j h (omega arith) u (omega (arith, ends .0, x .reaches))))
@@ -374,7 +374,7 @@ module _ {w p b : List ℕ} (body : Body w p b) where
       let (q, x) = is-current w p b k t e in
       let after = x .after in
       case-of (isList (class w j))
-      (λ v. innermost-last w 0 isList k q j (x .listed) (omega arith) (record { before = m; from = omega arith; reaches = reach; passes = v }))
+      (λ v. innermost-last w isList k q j (x .listed) (omega arith) (record { before = m; reaches = reach; passes = v }))
       (λ v.
       let clauses = block-other (class w j) (rw (u, v)) in
       let (d, i, h, n) = child-around (body .sized) j k (omega arith) m reach in
@@ -383,33 +383,33 @@ module _ {w p b : List ℕ} (body : Body w p b) where
       elim (ℕ-discrete d k) [
         | yes z ↦ let y : isBlock (class w k) ≡ false = rw z at (not-true (isBlock (class w d)) (both .1)) in clash (cc)
         | no o ↦
-            innermost-last w 0 isList k q d (x .listed) (omega arith) (record { before = omega arith; from = omega arith; reaches = n; passes = both .0 })
+            innermost-last w isList k q d (x .listed) (omega arith) (record { before = omega arith; reaches = n; passes = both .0 })
       ])
 
   -- ---- the target
   module _ (g : ℕ) (row : g < rowCount w) where
     abbrev aims : ℕ → Bool
-    aims t = around w 0 g t && (labels w p b 0 g t && (lastInRun w p b 0 t && inBlockOf w p b 0 t g))
+    aims t = around w g t && (labels w p b g t && (lastInRun w p b t && inBlockOf w p b t g))
 
-    aims-is : (t : ℕ) → Encloses g t → labels w p b 0 g t ≡ true → aims t ≡ true
-    aims-is t x u = rw (true-around w 0 g t (omega arith) (x .inside), u, x .last, x .in-block)
+    aims-is : (t : ℕ) → Encloses g t → labels w p b g t ≡ true → aims t ≡ true
+    aims-is t x u = rw (true-around w g t (x .inside), u, x .last, x .in-block)
 
-    is-aims : (t : ℕ) → t < g → aims t ≡ true → Encloses g t × (labels w p b 0 g t ≡ true)
+    is-aims : (t : ℕ) → t < g → aims t ≡ true → Encloses g t × (labels w p b g t ≡ true)
     is-aims t h u =
-        let a = and-true (around w 0 g t) (labels w p b 0 g t && (lastInRun w p b 0 t && inBlockOf w p b 0 t g)) u in
-        let c = and-true (labels w p b 0 g t) (lastInRun w p b 0 t && inBlockOf w p b 0 t g) (a .1) in
-        let d = and-true (lastInRun w p b 0 t) (inBlockOf w p b 0 t g) (c .1) in (
+        let a = and-true (around w g t) (labels w p b g t && (lastInRun w p b t && inBlockOf w p b t g)) u in
+        let c = and-true (labels w p b g t) (lastInRun w p b t && inBlockOf w p b t g) (a .1) in
+        let d = and-true (lastInRun w p b t) (inBlockOf w p b t g) (c .1) in (
           record {
             before = h;
-            inside = around-true w 0 g t (a .0) .1;
-            labeled-row = is-labels w p b 0 g t (c .0) .0;
+            inside = around-true w g t (a .0);
+            labeled-row = is-labels w p b g t (c .0) .0;
             last = d .0;
             in-block = d .1;
           },
           c .0,
         )
 
-    pub target-none : ((k t : ℕ) → BlockAround w g k → currentLabel w p b k ≡ some t → labels w p b 0 g t ≡ true → ⊥) → target w p b 0 g ≡ none
+    pub target-none : ((k t : ℕ) → BlockAround w g k → currentLabel w p b k ≡ some t → labels w p b g t ≡ true → ⊥) → target w p b g ≡ none
     unfolding target
     target-none never = none-highest aims g (λ t h. case-of (aims t)
         (λ u.
@@ -418,8 +418,8 @@ module _ {w p b : List ℕ} (body : Body w p b) where
         absurd (never k t a e (x .1)))
         (λ f. f))
 
-    pub target-found : (k t : ℕ) → BlockAround w g k → currentLabel w p b k ≡ some t → labels w p b 0 g t ≡ true
-        → ((j s : ℕ) → k < j → BlockAround w g j → currentLabel w p b j ≡ some s → labels w p b 0 g s ≡ true → ⊥) → target w p b 0 g ≡ some t
+    pub target-found : (k t : ℕ) → BlockAround w g k → currentLabel w p b k ≡ some t → labels w p b g t ≡ true
+        → ((j s : ℕ) → k < j → BlockAround w g j → currentLabel w p b j ≡ some s → labels w p b g s ≡ true → ⊥) → target w p b g ≡ some t
     unfolding target
     target-found k t a e u never =
         let x = of-block g k t row a e in
@@ -442,11 +442,11 @@ module _ {w p b : List ℕ} (body : Body w p b) where
         (λ f. f))
 
     -- its row is a label around the branch
-    pub target-label : (t : ℕ) → target w p b 0 g ≡ some t → Encloses g t
+    pub target-label : (t : ℕ) → target w p b g ≡ some t → Encloses g t
     unfolding target
     target-label t e = let f = highest-found aims g t e in is-aims t (f .0) (f .1) .0
 
-    pub target-named : (t : ℕ) → target w p b 0 g ≡ some t → 0 < rowCanon w p b g
+    pub target-named : (t : ℕ) → target w p b g ≡ some t → 0 < rowCanon w p b g
     unfolding target
     target-named t e =
         let f = highest-found aims g t e in

@@ -83,17 +83,17 @@ module _ (w : List ℕ) (r : ℕ) (a : detailAllowed (kind w r) (detail w r) ≡
   not-zero-continue n = let d = break-detail in detail-continue w r a (break-branch (class w r) t) (omega arith)
 
 -- ---- the target
-module _ {w p b : List ℕ} (body : Body w p b) (g : ℕ) (row : g < rowCount w) (label : ℕ) (e : label ≡ word (target w p b 0 g)) where
-  pub no-target : label ≡ 0 → false ≡ validTarget w p b 0 g
-  no-target z = case-found (target w p b 0 g)
+module _ {w p b : List ℕ} (body : Body w p b) (g : ℕ) (row : g < rowCount w) (label : ℕ) (e : label ≡ word (target w p b g)) where
+  pub no-target : label ≡ 0 → false ≡ validTarget w p b g
+  no-target z = case-found (target w p b g)
       (λ t f. let i = e ∙ ap word f in absurd (omega arith))
-      (λ f. sym (valid-none w p b 0 g f))
+      (λ f. sym (valid-none w p b g f))
 
   module _ (n : label ≡ 0 → ⊥) where
-    found : (t : ℕ) × (target w p b 0 g ≡ some t) × (label ≡ suc t)
+    found : (t : ℕ) × (target w p b g ≡ some t) × (label ≡ suc t)
     found =
         let i : suc (label - 1) ≡ label = omega arith in
-        (label - 1, word-found (target w p b 0 g) (label - 1) (sym e ∙ sym i), sym i)
+        (label - 1, word-found (target w p b g) (label - 1) (sym e ∙ sym i), sym i)
 
     -- the row below the label
     pub target-row : label < rowCount w
@@ -104,14 +104,14 @@ module _ {w p b : List ℕ} (body : Body w p b) (g : ℕ) (row : g < rowCount w)
         let one = body .one-statement t (omega arith) (rw (label-class body t (omega arith) (x .labeled-row))) in
         omega (arith, one .0, body .sized .within t (omega arith))
 
-    valid-as : validTarget w p b 0 g ≡ needs (class w g) (class w label)
-    valid-as = let (t, f, i) = found in valid-found w p b 0 g t f ∙ ap (λ (r : ℕ). needs (class w g) (class w r)) (sym i)
+    valid-as : validTarget w p b g ≡ needs (class w g) (class w label)
+    valid-as = let (t, f, i) = found in valid-found w p b g t f ∙ ap (λ (r : ℕ). needs (class w g) (class w r)) (sym i)
 
     module _ (k : ℕ) (ek : k ≡ kind w label) (v : Bool) where
-      pub valid-break : class w g ≡ break → ((d : ℕ) → detailAllowed k d ≡ true → v ≡ isBreakable (classOf k d)) → v ≡ validTarget w p b 0 g
+      pub valid-break : class w g ≡ break → ((d : ℕ) → detailAllowed k d ≡ true → v ≡ isBreakable (classOf k d)) → v ≡ validTarget w p b g
       valid-break c h =
           by-words isBreakable w label k v (own-breakable w label) ek (body .details label target-row) h ∙ sym (valid-as ∙ rw c)
 
-      pub valid-continue : class w g ≡ continue → ((d : ℕ) → detailAllowed k d ≡ true → v ≡ isLoop (classOf k d)) → v ≡ validTarget w p b 0 g
+      pub valid-continue : class w g ≡ continue → ((d : ℕ) → detailAllowed k d ≡ true → v ≡ isLoop (classOf k d)) → v ≡ validTarget w p b g
       valid-continue c h =
           by-words isLoop w label k v (own-loop w label) ek (body .details label target-row) h ∙ sym (valid-as ∙ rw c)

@@ -60,7 +60,7 @@ module _ {w p b cs ds ls : List ℕ} {upto : ℕ} (t : Tables w p b cs ds ls upt
   pub unlabelled : isBranch (class w x) ≡ true → name w x ≡ 0 → Walked w p b (suc x) faults s bs s bs h l
   unlabelled br z = idle-walked w p b x faults s bs h l row
       (record {
-        no-label = branch-label w p b 0 x br;
+        no-label = branch-label w p b x br;
         no-goto = λ c. omega (arith, goto-named (t .body) x row c);
         no-break = λ y. omega (arith, y .has-name);
         no-fallthrough = λ y. omega (arith, y .has-name);
@@ -68,17 +68,17 @@ module _ {w p b cs ds ls : List ℕ} {upto : ℕ} (t : Tables w p b cs ds ls upt
 
   -- ---- one that is no goto, and reports a fault or binds
   module _ (br : isBranch (class w x) ≡ true) (n : class w x ≡ goto → ⊥) where
-    none-label : isLabel w p b 0 x ≡ false
-    none-label = branch-label w p b 0 x br
+    none-label : isLabel w p b x ≡ false
+    none-label = branch-label w p b x br
 
-    reported : (code : ℕ) → report w p b 0 x ≡ fault w code x ∷ [] → bindingAt w p b (suc x) x ≡ 0
+    reported : (code : ℕ) → report w p b x ≡ fault w code x ∷ [] → bindingAt w p b (suc x) x ≡ 0
         → (s′ : List ℕ) → s′ ≡ sets s (faults * 4) (code ∷ position w x ∷ name w x ∷ 0 ∷ []) → Walked w p b (suc x) (faults + 1) s bs s′ bs h l
     reported code r e s′ i =
         walked w p b x faults s bs h l row none-label walking (faults + 1) s′ bs
         (written-fault w p b x faults s bs h l row none-label walking (fault w code x) r e s′ i)
         l (pending-other w p b (suc x) x n) (links-other w p b x l (no-block (class w x) br) (walking .block-links)) (λ g o. refl)
 
-    bound : (v : ℕ) → report w p b 0 x ≡ [] → v ≡ bindingAt w p b (suc x) x → Walked w p b (suc x) faults s bs s (set bs x v) h l
+    bound : (v : ℕ) → report w p b x ≡ [] → v ≡ bindingAt w p b (suc x) x → Walked w p b (suc x) faults s bs s (set bs x v) h l
     bound v r e =
         walked w p b x faults s bs h l row none-label walking faults s (set bs x v)
         (written-bound w p b x faults s bs h l row none-label walking v r e)
@@ -86,19 +86,19 @@ module _ {w p b cs ds ls : List ℕ} {upto : ℕ} (t : Tables w p b cs ds ls upt
 
   -- ---- a fallthrough with a label
   module _ (c : class w x ≡ fallthrough) (z : name w x ≡ 0 → ⊥) where
-    falls-report : report w p b 0 x ≡ fault w 6 x ∷ []
-    falls-report = report-fallthrough w p b 0 x (branch-label w p b 0 x (branch-fallthrough (class w x) c)) (other-labelled w p b 0 x (rw c))
-        (record { from = omega arith; falls-through = c; has-name = omega arith })
+    falls-report : report w p b x ≡ fault w 6 x ∷ []
+    falls-report = report-fallthrough w p b x (branch-label w p b x (branch-fallthrough (class w x) c)) (other-labelled w p b x (rw c))
+        (record { falls-through = c; has-name = omega arith })
 
     pub fallthrough-fits : faults * 4 + 4 ≤ length s
-    fallthrough-fits = one-fits w p b x faults s bs h l row (branch-label w p b 0 x (branch-fallthrough (class w x) c)) walking (fault w 6 x) falls-report
+    fallthrough-fits = one-fits w p b x faults s bs h l row (branch-label w p b x (branch-fallthrough (class w x) c)) walking (fault w 6 x) falls-report
 
     pub fallthrough-walked : (s′ : List ℕ) → s′ ≡ sets s (faults * 4) (6 ∷ position w x ∷ name w x ∷ 0 ∷ []) → Walked w p b (suc x) (faults + 1) s bs s′ bs h l
     fallthrough-walked s′ i =
         let br = branch-fallthrough (class w x) c in
         let n : class w x ≡ goto → ⊥ = λ e. clash (cc) in
         reported br n 6 falls-report
-        (at-other w p b (suc x) x n ∙ binding-other w p b 0 x (branch-label w p b 0 x br) n (other-labelled w p b 0 x (rw c))) s′ i
+        (at-other w p b (suc x) x n ∙ binding-other w p b x (branch-label w p b x br) n (other-labelled w p b x (rw c))) s′ i
 
   -- ---- a break or continue with a label
   module _ (k : oneOf (break ∷ continue ∷ []) (class w x) ≡ true) (z : 0 < name w x) where
@@ -108,67 +108,67 @@ module _ {w p b cs ds ls : List ℕ} {upto : ℕ} (t : Tables w p b cs ds ls upt
     branch : isBranch (class w x) ≡ true
     branch = break-branch (class w x) k
 
-    labelled : labelledBreak w p b 0 x ≡ true
-    labelled = labelled-is w p b 0 x (record { from = omega arith; breaks = k; has-name = z })
+    labelled : labelledBreak w p b x ≡ true
+    labelled = labelled-is w p b x (record { breaks = k; has-name = z })
 
     -- a valid target has the name
-    pub valid-numbered : (c : ℕ) → c ≡ getD cs (name w x) 0 → validTarget w p b 0 x ≡ true → c ≡ 0 → ⊥
+    pub valid-numbered : (c : ℕ) → c ≡ getD cs (name w x) 0 → validTarget w p b x ≡ true → c ≡ 0 → ⊥
     valid-numbered c e v y =
-        let (g, f, u) = is-valid w p b 0 x v in
+        let (g, f, u) = is-valid w p b x v in
         let m = target-named (t .body) x row g f in
         omega (arith, m, canon-read t x c row e)
 
-    pub break-bound : (c v : ℕ) → c ≡ getD cs (name w x) 0 → v ≡ getD ds c 0 → true ≡ validTarget w p b 0 x
+    pub break-bound : (c v : ℕ) → c ≡ getD cs (name w x) 0 → v ≡ getD ds c 0 → true ≡ validTarget w p b x
         → Walked w p b (suc x) faults s bs s (set bs x v) h l
     break-bound c v e f u =
-        let n = branch-label w p b 0 x branch in
-        bound branch no-goto v (report-valid w p b 0 x n labelled (sym u))
+        let n = branch-label w p b x branch in
+        bound branch no-goto v (report-valid w p b x n labelled (sym u))
         (declared-read t x c v row e (valid-numbered c e (sym u)) f
-        ∙ sym (at-other w p b (suc x) x no-goto ∙ binding-break w p b 0 x n no-goto labelled (sym u)))
+        ∙ sym (at-other w p b (suc x) x no-goto ∙ binding-break w p b x n no-goto labelled (sym u)))
 
-    break-report : (code : ℕ) → code ≡ 4 + detail w x → validTarget w p b 0 x ≡ false → report w p b 0 x ≡ fault w code x ∷ []
+    break-report : (code : ℕ) → code ≡ 4 + detail w x → validTarget w p b x ≡ false → report w p b x ≡ fault w code x ∷ []
     break-report code e f =
         let a = t .body .details x row in
-        let n = branch-label w p b 0 x branch in
+        let n = branch-label w p b x branch in
         elim (ℕ-discrete (detail w x) 0) [
-          | yes i ↦ let j : code ≡ 4 = omega arith in rw j (report-break w p b 0 x n labelled f (zero-break w x a k i))
+          | yes i ↦ let j : code ≡ 4 = omega arith in rw j (report-break w p b x n labelled f (zero-break w x a k i))
           | no o ↦
               let m = break-detail w x a k in
               let j : code ≡ 5 = omega arith in
-              rw j (report-continue w p b 0 x n labelled f (not-zero-continue w x a k o))
+              rw j (report-continue w p b x n labelled f (not-zero-continue w x a k o))
         ]
 
-    module _ (code : ℕ) (e : code ≡ 4 + detail w x) (f : false ≡ validTarget w p b 0 x) where
+    module _ (code : ℕ) (e : code ≡ 4 + detail w x) (f : false ≡ validTarget w p b x) where
       pub break-fits : faults * 4 + 4 ≤ length s
-      break-fits = one-fits w p b x faults s bs h l row (branch-label w p b 0 x branch) walking (fault w code x) (break-report code e (sym f))
+      break-fits = one-fits w p b x faults s bs h l row (branch-label w p b x branch) walking (fault w code x) (break-report code e (sym f))
 
       pub break-walked : (s′ : List ℕ) → s′ ≡ sets s (faults * 4) (code ∷ position w x ∷ name w x ∷ 0 ∷ []) → Walked w p b (suc x) (faults + 1) s bs s′ bs h l
       break-walked s′ i =
           reported branch no-goto code (break-report code e (sym f))
-          (at-other w p b (suc x) x no-goto ∙ binding-invalid w p b 0 x (branch-label w p b 0 x branch) no-goto (sym f)) s′ i
+          (at-other w p b (suc x) x no-goto ∙ binding-invalid w p b x (branch-label w p b x branch) no-goto (sym f)) s′ i
 
   -- ---- a goto
-  module _ (c : class w x ≡ goto) (label : ℕ) (el : label ≡ word (earlier w p b 0 x)) where
-    goto-label : isLabel w p b 0 x ≡ false
-    goto-label = branch-label w p b 0 x (branch-goto (class w x) c)
+  module _ (c : class w x ≡ goto) (label : ℕ) (el : label ≡ word (earlier w p b x)) where
+    goto-label : isLabel w p b x ≡ false
+    goto-label = branch-label w p b x (branch-goto (class w x) c)
 
     goto-block : isBlock (class w x) ≡ false
     goto-block = no-block (class w x) (branch-goto (class w x) c)
 
-    goto-report : report w p b 0 x ≡ []
-    goto-report = report-other w p b 0 x goto-label (other-labelled w p b 0 x (rw c)) (λ y. clash (cc (y .falls-through)))
+    goto-report : report w p b x ≡ []
+    goto-report = report-other w p b x goto-label (other-labelled w p b x (rw c)) (λ y. clash (cc (y .falls-through)))
 
     pub label-small : label ≤ 2000
-    label-small = case-found (earlier w p b 0 x)
+    label-small = case-found (earlier w p b x)
         (λ d e.
         let i = el ∙ ap word e in
-        let m = is-earlier w p b 0 x d e .1 in
+        let m = is-earlier w p b x d e .1 in
         omega (arith, t .body .most-rows))
         (λ e. let i = el ∙ ap word e in omega arith)
 
     -- bound to a label before it
     pub goto-bound : (label ≡ 0 → ⊥) → Walked w p b (suc x) faults s bs s (set bs x label) h l
-    goto-bound n = case-found (earlier w p b 0 x)
+    goto-bound n = case-found (earlier w p b x)
         (λ d e.
         walked w p b x faults s bs h l row goto-label walking faults s (set bs x label)
         (written-bound w p b x faults s bs h l row goto-label walking label goto-report (el ∙ ap word e ∙ sym (at-goto w p b (suc x) x d c e)))
@@ -177,8 +177,8 @@ module _ {w p b cs ds ls : List ℕ} {upto : ℕ} (t : Tables w p b cs ds ls upt
 
     -- pending
     module _ (z : label ≡ 0) where
-      no-earlier : earlier w p b 0 x ≡ none
-      no-earlier = case-found (earlier w p b 0 x) (λ d e. let i = el ∙ ap word e in absurd (omega arith)) (λ e. e)
+      no-earlier : earlier w p b x ≡ none
+      no-earlier = case-found (earlier w p b x) (λ d e. let i = el ∙ ap word e in absurd (omega arith)) (λ e. e)
 
       goto-written : Written w p b (suc x) faults s bs s bs
       goto-written = written-same w p b x faults s bs h l row goto-label walking goto-report

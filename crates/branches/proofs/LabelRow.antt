@@ -29,7 +29,7 @@ use Rattle.rules.proofs.SheetRows.{isOver, is-over, jumps-none, jumps-some}
 use Rattle.tables.specs.Canon.{rowCanon, Tables}
 use Rattle.branches.specs.Walk.{previousPending, bindingAt, Walking}
 use Rattle.branches.specs.Chain.{Chain, three, threes}
-use Rattle.tables.proofs.Labelling.{body-end, label-class, label-numbered, row-canon-within, labels-canon, canon-labels}
+use Rattle.tables.proofs.Labelling.{label-class, label-numbered, row-canon-within, labels-canon, canon-labels}
 use Rattle.branches.proofs.TableRows.{list-read}
 use Rattle.branches.proofs.WalkBindings.{later-found, later-kept, binding-same, at-goto, at-later, at-other}
 use Rattle.branches.proofs.WalkPending.{waits, pending-same, pending-found, pending-other, previous-not}
@@ -42,7 +42,7 @@ and-no true false u e = e
 and-no false true u e = sym e
 and-no false false u e = refl
 
-module _ {w p b cs ds ls : List ℕ} {x : ℕ} (tables : Tables w p b cs ds ls (suc x)) (row : x < rowCount w) (label : isLabel w p b 0 x ≡ true) where
+module _ {w p b cs ds ls : List ℕ} {x : ℕ} (tables : Tables w p b cs ds ls (suc x)) (row : x < rowCount w) (label : isLabel w p b x ≡ true) where
   -- ---- the row
   pub is-labeled : class w x ≡ labeled
   is-labeled = label-class (tables .body) x row label
@@ -67,16 +67,16 @@ module _ {w p b cs ds ls : List ℕ} {x : ℕ} (tables : Tables w p b cs ds ls (
   ]
 
   pub record InList (l : ℕ) : Type 0 where
-    pub is-list : listOf w 0 x ≡ some l
+    pub is-list : listOf w x ≡ some l
     pub before : l < x
     pub reaches : x < end w l
 
   some-list : (l : ℕ) × InList l
   unfolding listOf
-  some-list = case-found (listOf w 0 x)
-      (λ l e. let i = innermost-found w 0 isList x l e in (l, record { is-list = e; before = i .before; reaches = i .reaches }))
-      (λ e. absurd (innermost-none w 0 isList x 0 e
-      (record { before = after-root; from = omega arith; reaches = omega (arith, body-end (tables .body)); passes = rw (tables .body .root-class) })))
+  some-list = case-found (listOf w x)
+      (λ l e. let i = innermost-found w isList x l e in (l, record { is-list = e; before = i .before; reaches = i .reaches }))
+      (λ e. absurd (innermost-none w isList x 0 e
+      (record { before = after-root; reaches = omega arith; passes = rw (tables .body .root-class) })))
 
   -- its word, 1 + the list's row
   abbrev pub lo : ℕ
@@ -96,13 +96,13 @@ module _ {w p b cs ds ls : List ℕ} {x : ℕ} (tables : Tables w p b cs ds ls (
 
   pub record Taken (g : ℕ) : Type 0 where
     pub from : lo ≤ g
-    pub waits : pending w p b 0 x g ≡ true
+    pub waits : pending w p b x g ≡ true
     pub same-canon : rowCanon w p b g ≡ rowCanon w p b x
 
   pub is-taken : (g : ℕ) → takes g ≡ true → Taken g
   is-taken g t =
       let a = and-true (leb lo g) (waits w p b x (rowCanon w p b x) g) t in
-      let c = and-true (pending w p b 0 x g) (eqb (rowCanon w p b g) (rowCanon w p b x)) (a .1) in
+      let c = and-true (pending w p b x g) (eqb (rowCanon w p b g) (rowCanon w p b x)) (a .1) in
       record { from = leb-true lo g (a .0); waits = c .0; same-canon = eqb-true (rowCanon w p b g) (rowCanon w p b x) (c .1) }
 
   pub taken-is : (g : ℕ) → Taken g → takes g ≡ true
@@ -110,43 +110,43 @@ module _ {w p b cs ds ls : List ℕ} {x : ℕ} (tables : Tables w p b cs ds ls (
 
   module _ (g : ℕ) (h : g < x) where
     -- g stands in the list of x
-    pub in-list-from : lo ≤ g → inListOf w 0 x g ≡ true
+    pub in-list-from : lo ≤ g → inListOf w x g ≡ true
     in-list-from k =
         let (l, i, e) = the-list in
-        list-some w 0 x g l (i .is-list) ∙ rw (lt-ltb l g (omega arith), lt-ltb g (end w l) (omega (arith, i .reaches)))
+        list-some w x g l (i .is-list) ∙ rw (lt-ltb l g (omega arith), lt-ltb g (end w l) (omega (arith, i .reaches)))
 
-    pub from-in-list : inListOf w 0 x g ≡ true → lo ≤ g
+    pub from-in-list : inListOf w x g ≡ true → lo ≤ g
     from-in-list t =
         let (l, i, e) = the-list in
-        let (k, f, m, n) = in-list w 0 x g t in
+        let (k, f, m, n) = in-list w x g t in
         let s : l ≡ k = cc (i .is-list) in
         omega arith
 
-    pub taken-names : rowCanon w p b g ≡ rowCanon w p b x → labels w p b 0 g x ≡ true
+    pub taken-names : rowCanon w p b g ≡ rowCanon w p b x → labels w p b g x ≡ true
     taken-names e = canon-labels (tables .body) g x (omega arith) row is-labeled (sym e) (omega (arith, numbered-row))
 
-    pub named-canon : labels w p b 0 g x ≡ true → rowCanon w p b g ≡ rowCanon w p b x
+    pub named-canon : labels w p b g x ≡ true → rowCanon w p b g ≡ rowCanon w p b x
     named-canon t = sym (labels-canon (tables .body) g x (omega arith) row t .1)
 
     -- x is the later label of g
-    pub taken-later : takes g ≡ true → isLater w p b 0 g x ≡ true
+    pub taken-later : takes g ≡ true → isLater w p b g x ≡ true
     taken-later t =
         let k = is-taken g t in
-        parts-later w p b 0 g x h (taken-names (k .same-canon)) (in-list-from (k .from))
+        parts-later w p b g x h (taken-names (k .same-canon)) (in-list-from (k .from))
 
-    pub later-taken : isLater w p b 0 g x ≡ true → pending w p b 0 x g ≡ true → takes g ≡ true
+    pub later-taken : isLater w p b g x ≡ true → pending w p b x g ≡ true → takes g ≡ true
     later-taken t q =
-        let k = later-parts w p b 0 g x t in
+        let k = later-parts w p b g x t in
         taken-is g (record { from = from-in-list (k .2); waits = q; same-canon = named-canon (k .1) })
 
     -- ---- what waits after it
     waits-same : (d : ℕ) → (takes g ≡ true → rowCanon w p b g ≡ d → ⊥) → waits w p b (suc x) d g ≡ waits w p b x d g
-    waits-same d n = case-of (isLater w p b 0 g x)
+    waits-same d n = case-of (isLater w p b g x)
         (λ t. case-of (eqb (rowCanon w p b g) d)
-        (λ e. case-of (pending w p b 0 x g)
+        (λ e. case-of (pending w p b x g)
         (λ q. absurd (n (later-taken t q) (eqb-true (rowCanon w p b g) d e)))
         (λ q. rw (pending-found w p b x g t, q)))
-        (λ e. and-no (pending w p b 0 (suc x) g) (pending w p b 0 x g) (eqb (rowCanon w p b g) d) e))
+        (λ e. and-no (pending w p b (suc x) g) (pending w p b x g) (eqb (rowCanon w p b g) d) e))
         (λ f. ap (λ (q : Bool). q && eqb (rowCanon w p b g) d) (pending-same w p b x g f))
 
     pub waits-other : (d : ℕ) → (d ≡ rowCanon w p b x → ⊥) → waits w p b (suc x) d g ≡ waits w p b x d g
@@ -175,16 +175,16 @@ module _ {w p b cs ds ls : List ℕ} {x : ℕ} (tables : Tables w p b cs ds ls (
       (λ k h. waits-below k (omega (arith, list-within)) (rowCanon w p b x) h) (λ k l h. waits-taken k h l)
 
   -- ---- the links of what waits after it
-  pub still-waits : (g : ℕ) → g < suc x → pending w p b 0 (suc x) g ≡ true → (g < x) × (pending w p b 0 x g ≡ true)
+  pub still-waits : (g : ℕ) → g < suc x → pending w p b (suc x) g ≡ true → (g < x) × (pending w p b x g ≡ true)
   still-waits g h q = elim (ℕ-discrete g x) [
-    | yes e ↦ let z : pending w p b 0 (suc x) x ≡ true = rw e at q in absurd (clash (cc (pending-other w p b (suc x) x no-goto)))
+    | yes e ↦ let z : pending w p b (suc x) x ≡ true = rw e at q in absurd (clash (cc (pending-other w p b (suc x) x no-goto)))
     | no n ↦ (
       omega arith,
-      case-of (isLater w p b 0 g x) (λ t. absurd (clash (cc (pending-found w p b x g t)))) (λ f. sym (pending-same w p b x g f) ∙ q),
+      case-of (isLater w p b g x) (λ t. absurd (clash (cc (pending-found w p b x g t)))) (λ f. sym (pending-same w p b x g f) ∙ q),
     )
   ]
 
-  pub link-same : (g : ℕ) → g < x → pending w p b 0 (suc x) g ≡ true → previousPending w p b (suc x) (rowCanon w p b g) g ≡ previousPending w p b x (rowCanon w p b g) g
+  pub link-same : (g : ℕ) → g < x → pending w p b (suc x) g ≡ true → previousPending w p b (suc x) (rowCanon w p b g) g ≡ previousPending w p b x (rowCanon w p b g) g
   unfolding previousPending
   link-same g h q =
       let d = rowCanon w p b g in
@@ -200,50 +200,50 @@ module _ {w p b cs ds ls : List ℕ} {x : ℕ} (tables : Tables w p b cs ds ls (
       ])
 
   -- ---- what it reports of those that it resolves
-  module _ (latest : ℕ) (latest-is : latest ≡ word (latestDeclaration w p b 0 x)) where
-    jumps-taken : (g : ℕ) → g < x → takes g ≡ true → jumpsOver w p b 0 x g ≡ three w latest g
-    jumps-taken g h t = case-found (latestDeclaration w p b 0 x)
+  module _ (latest : ℕ) (latest-is : latest ≡ word (latestDeclaration w p b x)) where
+    jumps-taken : (g : ℕ) → g < x → takes g ≡ true → jumpsOver w p b x g ≡ three w latest g
+    jumps-taken g h t = case-found (latestDeclaration w p b x)
         (λ d e.
         let k = is-taken g t in
         let i : latest ≡ suc d = latest-is ∙ ap word e in
         let j : suc d - 1 ≡ d = omega arith in
-        let o : isOver w p b 0 x g d ≡ ltb g d = rw (k .waits, taken-names g h (k .same-canon), in-list-from g h (k .from)) in
-        jumps-some w p b 0 x g d e ∙ rw (o, i, j)
+        let o : isOver w p b x g d ≡ ltb g d = rw (k .waits, taken-names g h (k .same-canon), in-list-from g h (k .from)) in
+        jumps-some w p b x g d e ∙ rw (o, i, j)
         (elim (decLt g d) [
           | yes y ↦ rw (lt-ltb g d y, lt-ltb (suc g) (suc d) (omega arith))
           | no n ↦ rw (le-ltb g d (omega arith), le-ltb (suc g) (suc d) (omega arith))
         ]))
         (λ e.
         let i : latest ≡ 0 = latest-is ∙ ap word e in
-        jumps-none w p b 0 x g e ∙ rw (le-ltb (suc g) latest (omega arith)))
+        jumps-none w p b x g e ∙ rw (le-ltb (suc g) latest (omega arith)))
 
-    jumps-not : (g : ℕ) → g < x → takes g ≡ false → jumpsOver w p b 0 x g ≡ []
-    jumps-not g h f = case-found (latestDeclaration w p b 0 x)
-        (λ d e. jumps-some w p b 0 x g d e ∙ none-only (isOver w p b 0 x g d) (record { code = 3; position = position w g; name = name w g; other = position w d })
-        (case-of (isOver w p b 0 x g d)
+    jumps-not : (g : ℕ) → g < x → takes g ≡ false → jumpsOver w p b x g ≡ []
+    jumps-not g h f = case-found (latestDeclaration w p b x)
+        (λ d e. jumps-some w p b x g d e ∙ none-only (isOver w p b x g d) (record { code = 3; position = position w g; name = name w g; other = position w d })
+        (case-of (isOver w p b x g d)
         (λ o.
-        let k = is-over w p b 0 x g d o in
+        let k = is-over w p b x g d o in
         absurd (clash (cc (taken-is g (record { from = from-in-list g h (k .in-list); waits = k .waits; same-canon = named-canon g h (k .names) })))))
         (λ o. o)))
-        (λ e. jumps-none w p b 0 x g e)
+        (λ e. jumps-none w p b x g e)
 
-    pub jumps : threes w latest (down takes x) ≡ each (jumpsOver w p b 0 x) x
-    jumps = each-down (jumpsOver w p b 0 x) w latest takes x jumps-taken jumps-not
+    pub jumps : threes w latest (down takes x) ≡ each (jumpsOver w p b x) x
+    jumps = each-down (jumpsOver w p b x) w latest takes x jumps-taken jumps-not
 
   -- ---- what it binds
   pub bound-taken : (g : ℕ) → g < x → takes g ≡ true → bindingAt w p b (suc x) g ≡ suc x
   bound-taken g h t =
-      let q = is-pending w p b 0 x g (is-taken g t .waits) in
+      let q = is-pending w p b x g (is-taken g t .waits) in
       at-later w p b (suc x) g (q .gotos) (q .no-earlier) ∙ ap word (later-found w p b x g (taken-later g h t) (q .no-later))
 
   pub bound-not : (g : ℕ) → g < x → takes g ≡ false → bindingAt w p b (suc x) g ≡ bindingAt w p b x g
-  bound-not g h f = case-of (isLater w p b 0 g x)
-      (λ t. case-of (pending w p b 0 x g)
+  bound-not g h f = case-of (isLater w p b g x)
+      (λ t. case-of (pending w p b x g)
       (λ q. absurd (clash (cc (later-taken g h t q))))
       (λ q. case-of (oneOf (goto ∷ []) (class w g))
       (λ c.
       let e = is-one (class w g) goto c in
-      elim (resolved w p b 0 x g (omega arith) e q) [
+      elim (resolved w p b x g e q) [
         | inl y ↦ at-goto w p b (suc x) g (y .0) e (y .1) ∙ sym (at-goto w p b x g (y .0) e (y .1))
         | inr y ↦
             at-later w p b (suc x) g e (y .0) ∙ ap word (later-kept w p b x g (y .1 .0) (y .1 .1) ∙ sym (y .1 .1)) ∙ sym (at-later w p b x g e (y .0))
@@ -258,7 +258,7 @@ module _ {w p b cs ds ls : List ℕ} {x : ℕ} (tables : Tables w p b cs ds ls (
     linked-before : (g : ℕ) → g < x → waits w p b x (rowCanon w p b x) g ≡ true → getD links g 0 ≡ word (highest (waits w p b x (rowCanon w p b x)) g)
     unfolding previousPending
     linked-before g h t =
-        let a = and-true (pending w p b 0 x g) (eqb (rowCanon w p b g) (rowCanon w p b x)) t in
+        let a = and-true (pending w p b x g) (eqb (rowCanon w p b g) (rowCanon w p b x)) t in
         let e = eqb-true (rowCanon w p b g) (rowCanon w p b x) (a .1) in
         walking .goto-links g h (a .0) (omega (arith, numbered-row))
         ∙ ap (λ (c : ℕ). word (highest (waits w p b x c) g)) e

@@ -25,7 +25,6 @@ use Rattle.rules.proofs.SheetRows.{repeated-not, repeated-is, report-label}
 use Rattle.tables.specs.Canon.{rowCanon, Tables}
 use Rattle.branches.specs.Walk.{faultsAt, previousPending, Walking, Walked}
 use Rattle.branches.specs.Chain.{Chain, overs, stored, Counting, Resolving, Resolved, Declaring}
-use Rattle.tables.proofs.Labelling.{body-end}
 use Rattle.branches.proofs.TableRows.{canon-read, declared-read}
 use Rattle.branches.proofs.WalkFaults.{faults-suc, words-append, words-length}
 use Rattle.branches.proofs.WalkBindings.{wordAt, word-before, word-from, bindings-are, are-bindings, at-other}
@@ -79,7 +78,7 @@ module _ (s : List ℕ) (k : ℕ) (fs : List Fault) (fits : (k + length fs) * 4 
 -- what the row's work may assume
 abbrev pub AtLabel : (w p b cs ds ls s t heads links : List ℕ) (x faults latest : ℕ) → Type 0
 AtLabel w p b cs ds ls s t heads links x faults latest = Tables w p b cs ds ls (suc x)
-    × (Walking w p b x faults s t heads links × (((x < rowCount w) × (isLabel w p b 0 x ≡ true)) × (latest ≡ word (latestDeclaration w p b 0 x))))
+    × (Walking w p b x faults s t heads links × (((x < rowCount w) × (isLabel w p b x ≡ true)) × (latest ≡ word (latestDeclaration w p b x))))
 
 module _ {w p b cs ds ls s t heads links : List ℕ} {x faults latest : ℕ} (q : AtLabel w p b cs ds ls s t heads links x faults latest) where
   abbrev pub tables : Tables w p b cs ds ls (suc x)
@@ -91,24 +90,24 @@ module _ {w p b cs ds ls s t heads links : List ℕ} {x faults latest : ℕ} (q 
   abbrev pub row : x < rowCount w
   row = q .1 .1 .0 .0
 
-  abbrev pub label : isLabel w p b 0 x ≡ true
+  abbrev pub label : isLabel w p b x ≡ true
   label = q .1 .1 .0 .1
 
-  abbrev pub latest-is : latest ≡ word (latestDeclaration w p b 0 x)
+  abbrev pub latest-is : latest ≡ word (latestDeclaration w p b x)
   latest-is = q .1 .1 .1
 
   -- ---- the label's own work
-  own : (d : ℕ) × (declared w p b 0 x ≡ some d) × (d ≤ x)
-  own = some-declared w p b 0 x x (omega (arith, body-end (tables .body))) (labels-is w p b 0 x x label (same-own w p b x))
+  own : (d : ℕ) × (declared w p b x ≡ some d) × (d ≤ x)
+  own = some-declared w p b x x (omega arith) (labels-is w p b x x label (same-own w p b x))
 
   abbrev fs : List Fault
-  fs = repeated w p b 0 x
+  fs = repeated w p b x
 
   abbrev js : List Fault
-  js = each (jumpsOver w p b 0 x) x
+  js = each (jumpsOver w p b x) x
 
   pub all-faults : faultsAt w p b (suc x) ≡ (faultsAt w p b x ++ fs) ++ js
-  all-faults = faults-suc w p b x ∙ rw (report-label w p b 0 x label, append-assoc)
+  all-faults = faults-suc w p b x ∙ rw (report-label w p b x label, append-assoc)
 
   pub fits : (faults + length fs + length js) * 4 ≤ length s
   fits =
@@ -121,7 +120,7 @@ module _ {w p b cs ds ls s t heads links : List ℕ} {x faults latest : ℕ} (q 
     pub more-is : more ≡ faults + length fs
     pub sheet-is : s′ ≡ sets s (faults * 4) (faultWords fs)
     pub others : (k : ℕ) → (k ≡ x → ⊥) → getD t′ k 0 ≡ getD t k 0
-    pub own-bound : getD t′ x 0 ≡ binding w p b 0 x
+    pub own-bound : getD t′ x 0 ≡ binding w p b x
     pub same-length : length t′ ≡ length t
     pub kept : drop (rowCount w) t′ ≡ drop (rowCount w) t
 
@@ -129,14 +128,14 @@ module _ {w p b cs ds ls s t heads links : List ℕ} {x faults latest : ℕ} (q 
     canon-row : c ≡ rowCanon w p b x
     canon-row = canon-read tables x c row canon-is
 
-    declared-word : d ≡ word (declared w p b 0 x)
+    declared-word : d ≡ word (declared w p b x)
     declared-word = declared-read tables x c d row canon-is (λ e. omega (arith, canon-row, numbered-row tables row label)) declared-is
 
     declared-suc : d ≡ suc (own .0)
     declared-suc = declared-word ∙ ap word (own .1)
 
     repeats : (d ≡ suc x → ⊥) → length fs ≡ 2
-    repeats n = ap length (repeated-is w p b 0 x (own .0) (own .1) (λ e. n (declared-suc ∙ ap suc e)))
+    repeats n = ap length (repeated-is w p b x (own .0) (own .1) (λ e. n (declared-suc ∙ ap suc e)))
 
     pub declare-asks : ((x < rowCount w) × (x < length t)) × (((0 < d) × (d ≤ rowCount w) × (rowCount w ≤ 2000)) × ((d ≡ suc x → ⊥) → faults * 4 + 8 ≤ length s))
     declare-asks = (
@@ -151,20 +150,20 @@ module _ {w p b cs ds ls s t heads links : List ℕ} {x faults latest : ℕ} (q 
     declare-leaves {s′} {t′} {more} y = elim (ℕ-discrete d (suc x)) [
       | yes e ↦
           let i : own .0 ≡ x = omega (arith, declared-suc) in
-          let f : declared w p b 0 x ≡ some x = own .1 ∙ ap some i in
-          let n = repeated-not w p b 0 x f in
+          let f : declared w p b x ≡ some x = own .1 ∙ ap some i in
+          let n = repeated-not w p b x f in
           let z = y .first e in
           record {
             more-is = rw n (z .0 ∙ (omega arith));
             sheet-is = rw n (z .1);
             others = λ k o. rw (z .2) (getD-set-other t x k d 0 o);
-            own-bound = rw (z .2) (getD-set-same t x d 0 (omega (arith, walking .bindings-room)) ∙ e ∙ sym (binding-declared w p b 0 x label f));
+            own-bound = rw (z .2) (getD-set-same t x d 0 (omega (arith, walking .bindings-room)) ∙ e ∙ sym (binding-declared w p b x label f));
             same-length = rw (z .2) (length-set t x d);
             kept = rw (z .2) (drop-set-lt (rowCount w) t x d row);
           }
       | no o ↦
           let m : own .0 ≡ x → ⊥ = λ i. o (declared-suc ∙ ap suc i) in
-          let n = repeated-is w p b 0 x (own .0) (own .1) m in
+          let n = repeated-is w p b x (own .0) (own .1) m in
           let z = y .again o in
           let i : d - 1 ≡ own .0 = omega (arith, declared-suc) in
           record {
@@ -172,7 +171,7 @@ module _ {w p b cs ds ls s t heads links : List ℕ} {x faults latest : ℕ} (q 
             sheet-is = rw n (z .2 ∙ rw i);
             others = λ k u. ap (λ (l : List ℕ). getD l k 0) (z .1);
             own-bound = ap (λ (l : List ℕ). getD l x 0) (z .1) ∙ are-bindings w p b x t x (walking .bound) row ∙ word-from w p b x x (omega arith)
-                ∙ sym (binding-repeated w p b 0 x label (rw (own .1) (ne-eqb (own .0) x m)));
+                ∙ sym (binding-repeated w p b x label (rw (own .1) (ne-eqb (own .0) x m)));
             same-length = ap length (z .1);
             kept = ap (drop (rowCount w)) (z .1);
           }
@@ -180,8 +179,8 @@ module _ {w p b cs ds ls s t heads links : List ℕ} {x faults latest : ℕ} (q 
 
   -- ---- the gotos that it resolves
   latest-within : latest ≤ rowCount w
-  latest-within = case-found (latestDeclaration w p b 0 x)
-      (λ d e. let i : latest ≡ suc d = latest-is ∙ ap word e in omega (arith, is-latest w p b 0 x d e .0))
+  latest-within = case-found (latestDeclaration w p b x)
+      (λ d e. let i : latest ≡ suc d = latest-is ∙ ap word e in omega (arith, is-latest w p b x d e .0))
       (λ e. let i : latest ≡ 0 = latest-is ∙ ap word e in omega arith)
 
   abbrev pub taken : List ℕ

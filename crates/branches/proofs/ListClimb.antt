@@ -54,17 +54,17 @@ pub record Climbing (w p b : List ℕ) (c g list : ℕ) : Type 0 where
 module _ {w p b cs ds ls : List ℕ} {g : ℕ} (t : Tables w p b cs ds ls (suc g)) (c : ℕ) (row : g < rowCount w) (ec : c ≡ getD cs (name w g) 0) where
   -- ---- the start
   pub climb-start : (list : ℕ) → list ≡ getD ls g 0 → Climbing w p b c g list
-  climb-start list e = case-found (innermost w 0 holdsItems g)
+  climb-start list e = case-found (innermost w holdsItems g)
       (λ q f.
-      let i = innermost-found w 0 holdsItems g q f in
+      let i = innermost-found w holdsItems g q f in
       let v : list ≡ suc q = e ∙ t .listed g (omega arith) ∙ ap word f in
       let u : list - 1 ≡ q = omega arith in
       record {
         before = omega (arith, i .before);
         reaches = λ h. rw u (i .reaches);
         passed = λ k s l a x y.
-            innermost-last w 0 holdsItems g q k f (omega arith)
-            (record { before = a .before; from = omega arith; reaches = a .reaches; passes = block-holds (class w k) (a .blocks) });
+            innermost-last w holdsItems g q k f (omega arith)
+            (record { before = a .before; reaches = a .reaches; passes = block-holds (class w k) (a .blocks) });
       })
       (λ f.
       let v : list ≡ 0 = e ∙ t .listed g (omega arith) ∙ ap word f in
@@ -72,19 +72,19 @@ module _ {w p b cs ds ls : List ℕ} {g : ℕ} (t : Tables w p b cs ds ls (suc g
         before = omega arith;
         reaches = λ h. absurd (omega arith);
         passed = λ k s l a x y.
-            innermost-none w 0 holdsItems g k f
-            (record { before = a .before; from = omega arith; reaches = a .reaches; passes = block-holds (class w k) (a .blocks) });
+            innermost-none w holdsItems g k f
+            (record { before = a .before; reaches = a .reaches; passes = block-holds (class w k) (a .blocks) });
       })
 
   -- ---- no label has the number
-  pub no-name : c ≡ 0 → 0 ≡ word (target w p b 0 g)
+  pub no-name : c ≡ 0 → 0 ≡ word (target w p b g)
   no-name z = sym (ap word (target-none (t .body) g row
       (λ k s a e u.
       let before = a .before in
       let x = is-current w p b k s e .1 .before in
       omega (arith, labels-canon (t .body) g s row (omega arith) u .2, canon-read t g c row ec))))
 
-  pub climb-none : (list : ℕ) → Climbing w p b c g list → list ≤ 0 → 0 ≡ word (target w p b 0 g)
+  pub climb-none : (list : ℕ) → Climbing w p b c g list → list ≤ 0 → 0 ≡ word (target w p b g)
   climb-none list m z = sym (ap word (target-none (t .body) g row
       (λ k s a e u.
       let before = a .before in
@@ -109,9 +109,9 @@ module _ {w p b cs ds ls : List ℕ} {g : ℕ} (t : Tables w p b cs ds ls (suc g
     -- the climb goes on
     pub climb-on : (next : ℕ) → next ≡ getD ls (list - 1) 0
         → ((s : ℕ) → isBlock (class w (list - 1)) ≡ true → currentLabel w p b (list - 1) ≡ some s → rowCanon w p b s ≡ c → ⊥) → Climbing w p b c g next
-    climb-on next e other = case-found (innermost w 0 holdsItems (list - 1))
+    climb-on next e other = case-found (innermost w holdsItems (list - 1))
         (λ q f.
-        let i = innermost-found w 0 holdsItems (list - 1) q f in
+        let i = innermost-found w holdsItems (list - 1) q f in
         let v : next ≡ suc q = e ∙ t .listed (list - 1) (omega (arith, climb-row)) ∙ ap word f in
         let u : next - 1 ≡ q = omega arith in
         let before = i .before in
@@ -121,8 +121,8 @@ module _ {w p b cs ds ls : List ℕ} {g : ℕ} (t : Tables w p b cs ds ls (suc g
           before = omega (arith, climb-row);
           reaches = λ h. rw u (omega (arith, t .body .nested q (list - 1) (omega arith) before (i .reaches)));
           passed = λ k s l a x y. outer k s a x y
-              (λ n. innermost-last w 0 holdsItems (list - 1) q k f (omega arith)
-              (record { before = n; from = omega arith; reaches = omega (arith, a .reaches, climb-row); passes = block-holds (class w k) (a .blocks) }));
+              (λ n. innermost-last w holdsItems (list - 1) q k f (omega arith)
+              (record { before = n; reaches = omega (arith, a .reaches, climb-row); passes = block-holds (class w k) (a .blocks) }));
         })
         (λ f.
         let v : next ≡ 0 = e ∙ t .listed (list - 1) (omega (arith, climb-row)) ∙ ap word f in
@@ -130,8 +130,8 @@ module _ {w p b cs ds ls : List ℕ} {g : ℕ} (t : Tables w p b cs ds ls (suc g
           before = omega arith;
           reaches = λ h. absurd (omega arith);
           passed = λ k s l a x y. outer k s a x y
-              (λ n. innermost-none w 0 holdsItems (list - 1) k f
-              (record { before = n; from = omega arith; reaches = omega (arith, a .reaches, climb-row); passes = block-holds (class w k) (a .blocks) }));
+              (λ n. innermost-none w holdsItems (list - 1) k f
+              (record { before = n; reaches = omega (arith, a .reaches, climb-row); passes = block-holds (class w k) (a .blocks) }));
         })
       where
         outer : (k s : ℕ) → BlockAround w g k → currentLabel w p b k ≡ some s → rowCanon w p b s ≡ c → (k < list - 1 → ⊥) → ⊥
@@ -178,7 +178,7 @@ module _ {w p b cs ds ls : List ℕ} {g : ℕ} (t : Tables w p b cs ds ls (suc g
               o (canon-read t (label - 1) d label-in ed ∙ rw v y))
 
           -- of a label with the branch's name
-          pub climb-found : (c ≡ 0 → ⊥) → d ≡ c → label ≡ word (target w p b 0 g)
+          pub climb-found : (c ≡ 0 → ⊥) → d ≡ c → label ≡ word (target w p b g)
           climb-found z o =
               let s = label - 1 in
               let x = is-current w p b (list - 1) s current .1 in

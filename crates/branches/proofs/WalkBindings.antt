@@ -78,57 +78,57 @@ module _ (w p b : List ℕ) where
   bindings-zero t h e = bindings-are 0 t h (λ g l. e g l ∙ sym (word-from 0 g (omega arith)))
 
   -- ---- the binding of a row
-  pub at-goto : (x g d : ℕ) → class w g ≡ goto → earlier w p b 0 g ≡ some d → bindingAt w p b x g ≡ suc d
+  pub at-goto : (x g d : ℕ) → class w g ≡ goto → earlier w p b g ≡ some d → bindingAt w p b x g ≡ suc d
   unfolding bindingAt
   at-goto x g d c e = rw (one-is (class w g) goto c, e, bindingAt)
 
-  pub at-later : (x g : ℕ) → class w g ≡ goto → earlier w p b 0 g ≡ none → bindingAt w p b x g ≡ word (later w p b 0 x g)
+  pub at-later : (x g : ℕ) → class w g ≡ goto → earlier w p b g ≡ none → bindingAt w p b x g ≡ word (later w p b x g)
   unfolding bindingAt
   at-later x g c e = rw (one-is (class w g) goto c, e, bindingAt)
 
-  pub at-other : (x g : ℕ) → (class w g ≡ goto → ⊥) → bindingAt w p b x g ≡ binding w p b 0 g
+  pub at-other : (x g : ℕ) → (class w g ≡ goto → ⊥) → bindingAt w p b x g ≡ binding w p b g
   unfolding bindingAt
   at-other x g n = rw (one-not (class w g) goto n, bindingAt)
 
   -- ---- later, one row further
-  pub later-same : (x g : ℕ) → isLater w p b 0 g x ≡ false → later w p b 0 (suc x) g ≡ later w p b 0 x g
-  later-same x g f = case-found (later w p b 0 x g)
+  pub later-same : (x g : ℕ) → isLater w p b g x ≡ false → later w p b (suc x) g ≡ later w p b x g
+  later-same x g f = case-found (later w p b x g)
       (λ r e.
-      let i = is-later w p b 0 x g r e in
-      later-is w p b 0 (suc x) g r (omega (arith, i .0)) (i .1) (λ k h. later-first w p b 0 x g r k e h) ∙ sym e)
-      (λ e. none-later w p b 0 (suc x) g (λ k h. elim (ℕ-discrete k x) [
+      let i = is-later w p b x g r e in
+      later-is w p b (suc x) g r (omega (arith, i .0)) (i .1) (λ k h. later-first w p b x g r k e h) ∙ sym e)
+      (λ e. none-later w p b (suc x) g (λ k h. elim (ℕ-discrete k x) [
         | yes i ↦ rw i f
-        | no n ↦ later-none w p b 0 x g k e (omega arith)
+        | no n ↦ later-none w p b x g k e (omega arith)
       ]) ∙ sym e)
 
-  pub later-found : (x g : ℕ) → isLater w p b 0 g x ≡ true → later w p b 0 x g ≡ none → later w p b 0 (suc x) g ≡ some x
-  later-found x g t e = later-is w p b 0 (suc x) g x (omega arith) t (λ k h. later-none w p b 0 x g k e h)
+  pub later-found : (x g : ℕ) → isLater w p b g x ≡ true → later w p b x g ≡ none → later w p b (suc x) g ≡ some x
+  later-found x g t e = later-is w p b (suc x) g x (omega arith) t (λ k h. later-none w p b x g k e h)
 
-  pub later-kept : (x g r : ℕ) → later w p b 0 x g ≡ some r → later w p b 0 (suc x) g ≡ some r
+  pub later-kept : (x g r : ℕ) → later w p b x g ≡ some r → later w p b (suc x) g ≡ some r
   later-kept x g r e =
-      let i = is-later w p b 0 x g r e in
-      later-is w p b 0 (suc x) g r (omega (arith, i .0)) (i .1) (λ k h. later-first w p b 0 x g r k e h)
+      let i = is-later w p b x g r e in
+      later-is w p b (suc x) g r (omega (arith, i .0)) (i .1) (λ k h. later-first w p b x g r k e h)
 
   -- no label, no later
-  pub not-later : (x g : ℕ) → isLabel w p b 0 x ≡ false → isLater w p b 0 g x ≡ false
-  not-later x g n = case-of (isLater w p b 0 g x)
-      (λ t. absurd (clash (cc (is-labels w p b 0 g x (later-parts w p b 0 g x t .1) .0))))
+  pub not-later : (x g : ℕ) → isLabel w p b x ≡ false → isLater w p b g x ≡ false
+  not-later x g n = case-of (isLater w p b g x)
+      (λ t. absurd (clash (cc (is-labels w p b g x (later-parts w p b g x t .1) .0))))
       (λ f. f)
 
   -- and none of the rows before the goto is later
-  pub later-own : (g : ℕ) → later w p b 0 (suc g) g ≡ none
-  later-own g = none-later w p b 0 (suc g) g (λ k h. case-of (isLater w p b 0 g k)
-      (λ t. let l = later-parts w p b 0 g k t .0 in absurd (omega arith))
+  pub later-own : (g : ℕ) → later w p b (suc g) g ≡ none
+  later-own g = none-later w p b (suc g) g (λ k h. case-of (isLater w p b g k)
+      (λ t. let l = later-parts w p b g k t .0 in absurd (omega arith))
       (λ f. f))
 
   -- ---- one row further: the words before it
-  pub binding-same : (x g : ℕ) → isLater w p b 0 g x ≡ false → bindingAt w p b (suc x) g ≡ bindingAt w p b x g
+  pub binding-same : (x g : ℕ) → isLater w p b g x ≡ false → bindingAt w p b (suc x) g ≡ bindingAt w p b x g
   binding-same x g f = case-of (isClass w goto g)
       (λ t. goto-same (is-one (class w g) goto t))
       (λ t. other-same (λ e. clash (cc (one-is (class w g) goto e))))
     where
       goto-same : class w g ≡ goto → bindingAt w p b (suc x) g ≡ bindingAt w p b x g
-      goto-same c = case-found (earlier w p b 0 g)
+      goto-same c = case-found (earlier w p b g)
           (λ d e. at-goto (suc x) g d c e ∙ sym (at-goto x g d c e))
           (λ e. at-later (suc x) g c e ∙ ap word (later-same x g f) ∙ sym (at-later x g c e))
 
@@ -136,7 +136,7 @@ module _ (w p b : List ℕ) where
       other-same n = at-other (suc x) g n ∙ sym (at-other x g n)
 
   -- a row that is no label: its own word is set, the others stay
-  module _ (x : ℕ) (row : x < rowCount w) (n : isLabel w p b 0 x ≡ false) (t : List ℕ) (room : rowCount w ≤ length t)
+  module _ (x : ℕ) (row : x < rowCount w) (n : isLabel w p b x ≡ false) (t : List ℕ) (room : rowCount w ≤ length t)
       (bound : take (rowCount w) t ≡ bindingsAt w p b x) where
     others : (g : ℕ) → g < rowCount w → (g ≡ x → ⊥) → getD t g 0 ≡ wordAt (suc x) g
     others g h o = are-bindings x t g bound h ∙ elim (decLt g x) [

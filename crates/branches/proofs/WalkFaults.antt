@@ -14,17 +14,17 @@ use Rattle.branches.specs.Walk.{faultsAt}
 module _ (w p b : List ℕ) where
   pub faults-zero : faultsAt w p b 0 ≡ []
   unfolding faultsAt
-  faults-zero = each-zero (report w p b 0)
+  faults-zero = each-zero (report w p b)
 
-  pub faults-suc : (x : ℕ) → faultsAt w p b (suc x) ≡ faultsAt w p b x ++ report w p b 0 x
+  pub faults-suc : (x : ℕ) → faultsAt w p b (suc x) ≡ faultsAt w p b x ++ report w p b x
   unfolding faultsAt
-  faults-suc x = each-suc (report w p b 0) x
+  faults-suc x = each-suc (report w p b) x
 
   -- a row that reports nothing, and one that reports one fault
-  pub faults-none : (x : ℕ) → report w p b 0 x ≡ [] → faultsAt w p b (suc x) ≡ faultsAt w p b x
+  pub faults-none : (x : ℕ) → report w p b x ≡ [] → faultsAt w p b (suc x) ≡ faultsAt w p b x
   faults-none x e = rw (faults-suc x, e) (append-nil (faultsAt w p b x))
 
-  pub faults-one : (x : ℕ) (f : Fault) → report w p b 0 x ≡ f ∷ [] → faultsAt w p b (suc x) ≡ faultsAt w p b x ++ f ∷ []
+  pub faults-one : (x : ℕ) (f : Fault) → report w p b x ≡ f ∷ [] → faultsAt w p b (suc x) ≡ faultsAt w p b x ++ f ∷ []
   faults-one x f e = rw (faults-suc x, e)
 
 -- ---- the words of faults

@@ -20,45 +20,45 @@ use Rattle.branches.proofs.WalkBindings.{later-same, later-own, not-lat
 
 module _ (w p b : List ℕ) where
   -- ---- one goto
-  pub pending-same : (x g : ℕ) → isLater w p b 0 g x ≡ false → pending w p b 0 (suc x) g ≡ pending w p b 0 x g
+  pub pending-same : (x g : ℕ) → isLater w p b g x ≡ false → pending w p b (suc x) g ≡ pending w p b x g
   unfolding pending
   pending-same x g f = rw (later-same w p b x g f, pending)
 
   -- it is resolved at x
-  pub pending-found : (x g : ℕ) → isLater w p b 0 g x ≡ true → pending w p b 0 (suc x) g ≡ false
-  pending-found x g t = not-pending w p b 0 (suc x) g
-      (λ y. clash (cc (later-none w p b 0 (suc x) g x (y .no-later) (omega arith))))
+  pub pending-found : (x g : ℕ) → isLater w p b g x ≡ true → pending w p b (suc x) g ≡ false
+  pending-found x g t = not-pending w p b (suc x) g
+      (λ y. clash (cc (later-none w p b (suc x) g x (y .no-later) (omega arith))))
 
   -- a row that is no goto, or has an earlier label
-  pub pending-other : (x g : ℕ) → (class w g ≡ goto → ⊥) → pending w p b 0 x g ≡ false
-  pending-other x g n = not-pending w p b 0 x g (λ y. n (y .gotos))
+  pub pending-other : (x g : ℕ) → (class w g ≡ goto → ⊥) → pending w p b x g ≡ false
+  pending-other x g n = not-pending w p b x g (λ y. n (y .gotos))
 
-  pub pending-earlier : (x g d : ℕ) → earlier w p b 0 g ≡ some d → pending w p b 0 x g ≡ false
-  pending-earlier x g d e = not-pending w p b 0 x g (λ y. clash (cc (y .no-earlier)))
+  pub pending-earlier : (x g d : ℕ) → earlier w p b g ≡ some d → pending w p b x g ≡ false
+  pending-earlier x g d e = not-pending w p b x g (λ y. clash (cc (y .no-earlier)))
 
   -- a goto when the walk has just passed it
-  pub pending-own : (g : ℕ) → class w g ≡ goto → earlier w p b 0 g ≡ none → pending w p b 0 (suc g) g ≡ true
-  pending-own g c e = pending-is w p b 0 (suc g) g (record { from = omega arith; gotos = c; no-earlier = e; no-later = later-own w p b g })
+  pub pending-own : (g : ℕ) → class w g ≡ goto → earlier w p b g ≡ none → pending w p b (suc g) g ≡ true
+  pending-own g c e = pending-is w p b (suc g) g (record { gotos = c; no-earlier = e; no-later = later-own w p b g })
 
   -- ---- the latest of a name
   abbrev pub waits : ℕ → ℕ → ℕ → Bool
-  waits x c h = pending w p b 0 x h && eqb (rowCanon w p b h) c
+  waits x c h = pending w p b x h && eqb (rowCanon w p b h) c
 
   -- a row that is no label changes none of those before it
-  pub previous-same : (x c g : ℕ) → isLabel w p b 0 x ≡ false → previousPending w p b (suc x) c g ≡ previousPending w p b x c g
+  pub previous-same : (x c g : ℕ) → isLabel w p b x ≡ false → previousPending w p b (suc x) c g ≡ previousPending w p b x c g
   unfolding previousPending
   previous-same x c g n =
       highest-same (waits (suc x) c) (waits x c) g (λ h l. rw (pending-same x h (not-later w p b x h n)))
 
   -- the row x comes on top, or does not
-  pub previous-top : (x g c : ℕ) → pending w p b 0 x g ≡ true → rowCanon w p b g ≡ c → previousPending w p b x c (suc g) ≡ some g
+  pub previous-top : (x g c : ℕ) → pending w p b x g ≡ true → rowCanon w p b g ≡ c → previousPending w p b x c (suc g) ≡ some g
   unfolding previousPending
   previous-top x g c t e = highest-yes (waits x c) g (rw (t, eq-eqb (rowCanon w p b g) c e))
 
-  pub previous-other : (x g c : ℕ) → pending w p b 0 x g ≡ true → (rowCanon w p b g ≡ c → ⊥) → previousPending w p b x c (suc g) ≡ previousPending w p b x c g
+  pub previous-other : (x g c : ℕ) → pending w p b x g ≡ true → (rowCanon w p b g ≡ c → ⊥) → previousPending w p b x c (suc g) ≡ previousPending w p b x c g
   unfolding previousPending
   previous-other x g c t n = highest-no (waits x c) g (rw (t, ne-eqb (rowCanon w p b g) c n))
 
-  pub previous-not : (x g c : ℕ) → pending w p b 0 x g ≡ false → previousPending w p b x c (suc g) ≡ previousPending w p b x c g
+  pub previous-not : (x g c : ℕ) → pending w p b x g ≡ false → previousPending w p b x c (suc g) ≡ previousPending w p b x c g
   unfolding previousPending
   previous-not x g c f = highest-no (waits x c) g (rw f)

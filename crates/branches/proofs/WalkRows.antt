@@ -66,9 +66,9 @@ module _ (w p b : List ℕ) where
     pub bindings-length : length bindings′ ≡ length bindings
     pub bindings-kept : drop (rowCount w) bindings′ ≡ drop (rowCount w) bindings
 
-  module _ (x faults : ℕ) (s t h l : List ℕ) (row : x < rowCount w) (n : isLabel w p b 0 x ≡ false) (walking : Walking w p b x faults s t h l) where
+  module _ (x faults : ℕ) (s t h l : List ℕ) (row : x < rowCount w) (n : isLabel w p b x ≡ false) (walking : Walking w p b x faults s t h l) where
     -- what is reported and what is bound
-    pub written-same : report w p b 0 x ≡ [] → bindingAt w p b (suc x) x ≡ 0 → Written (suc x) faults s t s t
+    pub written-same : report w p b x ≡ [] → bindingAt w p b (suc x) x ≡ 0 → Written (suc x) faults s t s t
     written-same r e =
         let f = faults-none w p b x r in
         record {
@@ -81,7 +81,7 @@ module _ (w p b : List ℕ) where
           bindings-kept = refl;
         }
 
-    pub written-bound : (v : ℕ) → report w p b 0 x ≡ [] → v ≡ bindingAt w p b (suc x) x → Written (suc x) faults s t s (set t x v)
+    pub written-bound : (v : ℕ) → report w p b x ≡ [] → v ≡ bindingAt w p b (suc x) x → Written (suc x) faults s t s (set t x v)
     written-bound v r e =
         let f = faults-none w p b x r in
         record {
@@ -95,12 +95,12 @@ module _ (w p b : List ℕ) where
         }
 
     -- there is room for one fault
-    pub one-fits : (f : Fault) → report w p b 0 x ≡ f ∷ [] → faults * 4 + 4 ≤ length s
+    pub one-fits : (f : Fault) → report w p b x ≡ f ∷ [] → faults * 4 + 4 ≤ length s
     one-fits f r =
         let e : length (faultsAt w p b (suc x)) ≡ length (faultsAt w p b x) + 1 = ap length (faults-one w p b x f r) ∙ snoc-length (faultsAt w p b x) f in
         omega (arith, faults-fit w p b (suc x) (omega arith), walking .count, walking .sheet-room)
 
-    pub written-fault : (f : Fault) → report w p b 0 x ≡ f ∷ [] → bindingAt w p b (suc x) x ≡ 0
+    pub written-fault : (f : Fault) → report w p b x ≡ f ∷ [] → bindingAt w p b (suc x) x ≡ 0
         → (s′ : List ℕ) → s′ ≡ sets s (faults * 4) (f .code ∷ f .position ∷ f .name ∷ f .other ∷ []) → Written (suc x) (faults + 1) s t s′ t
     written-fault f r e s′ i =
         let q = faults-one w p b x f r in
@@ -116,7 +116,7 @@ module _ (w p b : List ℕ) where
         }
 
     -- ---- what waits
-    waits-before : (g : ℕ) → pending w p b 0 (suc x) g ≡ true → pending w p b 0 x g ≡ true
+    waits-before : (g : ℕ) → pending w p b (suc x) g ≡ true → pending w p b x g ≡ true
     waits-before g q = sym (pending-same w p b x g (not-later w p b x g n)) ∙ q
 
     module _ (faults′ : ℕ) (s′ t′ : List ℕ) (done : Written (suc x) faults′ s t s′ t′) where
@@ -124,7 +124,7 @@ module _ (w p b : List ℕ) where
       state : (h′ l′ : List ℕ) → pairCount p < length h′
           → ((c : ℕ) → 0 < c → c ≤ pairCount p → getD h′ c 0 ≡ word (previousPending w p b (suc x) c (suc x)))
           → BlockLinks w p b (suc x) l′
-          → ((g : ℕ) → g < suc x → pending w p b 0 (suc x) g ≡ true → 0 < rowCanon w p b g → getD l′ g 0 ≡ word (previousPending w p b (suc x) (rowCanon w p b g) g))
+          → ((g : ℕ) → g < suc x → pending w p b (suc x) g ≡ true → 0 < rowCanon w p b g → getD l′ g 0 ≡ word (previousPending w p b (suc x) (rowCanon w p b g) g))
           → Walked w p b (suc x) faults′ s t s′ t′ h′ l′
       state h′ l′ room heads blocks gotos = record {
         state = record {
@@ -146,19 +146,19 @@ module _ (w p b : List ℕ) where
       }
 
       -- the row is not pending; its word in the links may change
-      pub walked : (l′ : List ℕ) → pending w p b 0 (suc x) x ≡ false → BlockLinks w p b (suc x) l′ → ((g : ℕ) → (g ≡ x → ⊥) → getD l′ g 0 ≡ getD l g 0)
+      pub walked : (l′ : List ℕ) → pending w p b (suc x) x ≡ false → BlockLinks w p b (suc x) l′ → ((g : ℕ) → (g ≡ x → ⊥) → getD l′ g 0 ≡ getD l g 0)
           → Walked w p b (suc x) faults′ s t s′ t′ h l′
       walked l′ f blocks same = state h l′ (walking .heads-room)
           (λ c z k. walking .heads-are c z k ∙ ap word (sym (previous-not w p b (suc x) x c f ∙ previous-same w p b x c x n)))
           blocks
           (λ g k q z. elim (ℕ-discrete g x) [
-            | yes i ↦ let u : pending w p b 0 (suc x) x ≡ true = rw i at q in absurd (clash (cc))
+            | yes i ↦ let u : pending w p b (suc x) x ≡ true = rw i at q in absurd (clash (cc))
             | no o ↦
                 same g o ∙ walking .goto-links g (omega arith) (waits-before g q) z ∙ ap word (sym (previous-same w p b x (rowCanon w p b g) g n))
           ])
 
       -- the row is pending and has no canonical number
-      pub walked-blank : pending w p b 0 (suc x) x ≡ true → rowCanon w p b x ≡ 0 → isBlock (class w x) ≡ false → Walked w p b (suc x) faults′ s t s′ t′ h l
+      pub walked-blank : pending w p b (suc x) x ≡ true → rowCanon w p b x ≡ 0 → isBlock (class w x) ≡ false → Walked w p b (suc x) faults′ s t s′ t′ h l
       walked-blank q e o = state h l (walking .heads-room)
           (λ c z k. walking .heads-are c z k ∙ ap word (sym (previous-other w p b (suc x) x c q (λ i. omega arith) ∙ previous-same w p b x c x n)))
           (links-other x l o (walking .block-links))
@@ -168,7 +168,7 @@ module _ (w p b : List ℕ) where
           ])
 
       -- the row is pending: it comes on top of those of its name
-      pub walked-pending : pending w p b 0 (suc x) x ≡ true → 0 < rowCanon w p b x → rowCanon w p b x ≤ pairCount p → isBlock (class w x) ≡ false
+      pub walked-pending : pending w p b (suc x) x ≡ true → 0 < rowCanon w p b x → rowCanon w p b x ≤ pairCount p → isBlock (class w x) ≡ false
           → Walked w p b (suc x) faults′ s t s′ t′ (set h (rowCanon w p b x) (suc x)) (set l x (getD h (rowCanon w p b x) 0))
       walked-pending q z k o =
           let c = rowCanon w p b x in
@@ -195,18 +195,18 @@ module _ (w p b : List ℕ) where
 
   -- ---- a row that does nothing
   pub record Idle (x : ℕ) : Type 0 where
-    pub no-label : isLabel w p b 0 x ≡ false
+    pub no-label : isLabel w p b x ≡ false
     pub no-goto : class w x ≡ goto → ⊥
-    pub no-break : LabelledBreak w p b 0 x → ⊥
-    pub no-fallthrough : LabelledFallthrough w p b 0 x → ⊥
+    pub no-break : LabelledBreak w p b x → ⊥
+    pub no-fallthrough : LabelledFallthrough w p b x → ⊥
 
   module _ (x faults : ℕ) (s t h l : List ℕ) (row : x < rowCount w) (idle : Idle x) (walking : Walking w p b x faults s t h l) where
     idle-written : Written (suc x) faults s t s t
     idle-written =
         let n = idle .no-label in
-        let f = not-labelled w p b 0 x (idle .no-break) in
-        written-same x faults s t h l row n walking (report-other w p b 0 x n f (idle .no-fallthrough))
-        (at-other w p b (suc x) x (idle .no-goto) ∙ binding-other w p b 0 x n (idle .no-goto) f)
+        let f = not-labelled w p b x (idle .no-break) in
+        written-same x faults s t h l row n walking (report-other w p b x n f (idle .no-fallthrough))
+        (at-other w p b (suc x) x (idle .no-goto) ∙ binding-other w p b x n (idle .no-goto) f)
 
     pub idle-walked : isBlock (class w x) ≡ false → Walked w p b (suc x) faults s t s t h l
     idle-walked o = walked x faults s t h l row (idle .no-label) walking faults s t idle-written l

@@ -21,13 +21,13 @@ module _ (w p b : List ℕ) where
 
   -- what the rows before x have reported
   unfoldable pub faultsAt : ℕ → List Fault
-  faultsAt x = each (report w p b 0) x
+  faultsAt x = each (report w p b) x
 
   -- the binding of row g, with the labels before row x
   unfoldable pub bindingAt : ℕ → ℕ → ℕ
   bindingAt x g = elim (isClass w goto g) [
-    | true ↦ word (elim (earlier w p b 0 g) [ some d ↦ some d | none ↦ later w p b 0 x g ])
-    | false ↦ binding w p b 0 g
+    | true ↦ word (elim (earlier w p b g) [ some d ↦ some d | none ↦ later w p b x g ])
+    | false ↦ binding w p b g
   ]
 
   -- one word for each row, 0 from row x on
@@ -38,15 +38,15 @@ module _ (w p b : List ℕ) where
 
   -- of the gotos before row g that are pending at x, the latest with the canonical number c
   unfoldable pub previousPending : ℕ → ℕ → ℕ → Option ℕ
-  previousPending x c g = highest (λ h. pending w p b 0 x h && eqb (rowCanon w p b h) c) g
+  previousPending x c g = highest (λ h. pending w p b x h && eqb (rowCanon w p b h) c) g
 
   -- ---- the current label: the innermost label, not `_`, of the item in which row r stands
   unfoldable pub currentLabel : ℕ → Option ℕ
-  currentLabel r = elim (listOf w 0 r) [ none ↦ none | some l ↦ highest (λ t. ltb l t && (isLabel w p b 0 t && ltb r (end w t))) r ]
+  currentLabel r = elim (listOf w r) [ none ↦ none | some l ↦ highest (λ t. ltb l t && (isLabel w p b t && ltb r (end w t))) r ]
 
   -- the latest declaration item of the list l before row x
   unfoldable pub latestIn : ℕ → ℕ → Option ℕ
-  latestIn l x = highest (λ d. isClass w declaration d && is (listOf w 0 d) l) x
+  latestIn l x = highest (λ d. isClass w declaration d && is (listOf w d) l) x
 
   -- the label that each Block before row x belongs to
   abbrev pub BlockLinks : ℕ → List ℕ → Type 0
@@ -63,7 +63,7 @@ module _ (w p b : List ℕ) where
     pub heads-room : pairCount p < length heads
     pub heads-are : (c : ℕ) → 0 < c → c ≤ pairCount p → getD heads c 0 ≡ word (previousPending x c x)
     pub block-links : BlockLinks x links
-    pub goto-links : (g : ℕ) → g < x → pending w p b 0 x g ≡ true → 0 < rowCanon w p b g → getD links g 0 ≡ word (previousPending x (rowCanon w p b g) g)
+    pub goto-links : (g : ℕ) → g < x → pending w p b x g ≡ true → 0 < rowCanon w p b g → getD links g 0 ≡ word (previousPending x (rowCanon w p b g) g)
 
   -- one more piece of the walk: from the words at entry, the state at x with the words at exit; what is past the sheet and the bindings stays
   pub record Walked (x faults : ℕ) (sheet bindings sheet′ bindings′ heads′ links′ : List ℕ) : Type 0 where
@@ -75,6 +75,6 @@ module _ (w p b : List ℕ) where
 
   -- the context that goes down the walk to row x, in the list l: the latest declaration there, and the current label
   pub record InContext (l x latest label : ℕ) : Type 0 where
-    pub in-list : listOf w 0 x ≡ some l
+    pub in-list : listOf w x ≡ some l
     pub latest-is : latest ≡ word (latestIn l x)
     pub label-is : label ≡ word (currentLabel x)

@@ -29,7 +29,7 @@ fn goto_target(
 ) -> usize
     requires { ⌜ Tables (now rows) (now pairs) (now bytes) (now canons) (now declareds) (now lists) (suc (row .0)) ⌝ }
     requires { ⌜ (row .0 < rowCount (now rows)) × (class (now rows) (row .0) ≡ goto) ⌝ }
-    ensures { λ r. ⌜ r ≡ word (earlier (now (rows .entry)) (now (pairs .entry)) (now (bytes .entry)) 0 (row .0)) ⌝ }
+    ensures { λ r. ⌜ r ≡ word (earlier (now (rows .entry)) (now (pairs .entry)) (now (bytes .entry)) (row .0)) ⌝ }
 {
     let c = tables::canon_of(rows, canons, row);
     if c == 0 {
@@ -69,7 +69,7 @@ fn enclosing_target(
     requires { ⌜ Tables (now rows) (now pairs) (now bytes) (now canons) (now declareds) (now lists) (suc (row .0)) ⌝ }
     requires { ⌜ BlockLinks (now rows) (now pairs) (now bytes) (row .0) (now links) ⌝ }
     requires { ⌜ (row .0 < rowCount (now rows)) × (isBranch (class (now rows) (row .0)) ≡ true) ⌝ }
-    ensures { λ r. ⌜ r ≡ word (target (now (rows .entry)) (now (pairs .entry)) (now (bytes .entry)) 0 (row .0)) ⌝ }
+    ensures { λ r. ⌜ r ≡ word (target (now (rows .entry)) (now (pairs .entry)) (now (bytes .entry)) (row .0)) ⌝ }
 {
     let c = tables::canon_of(rows, canons, row);
     if c == 0 {
@@ -106,7 +106,7 @@ fn valid_target(
     requires { ⌜ Tables (now rows) (now pairs) (now bytes) (now canons) (now declareds) (now lists) (suc (row .0)) ⌝ }
     requires { ⌜ BlockLinks (now rows) (now pairs) (now bytes) (row .0) (now links) ⌝ }
     requires { ⌜ (row .0 < rowCount (now rows)) × (oneOf (break ∷ continue ∷ []) (class (now rows) (row .0)) ≡ true) ⌝ }
-    ensures { λ r. ⌜ r ≡ validTarget (now (rows .entry)) (now (pairs .entry)) (now (bytes .entry)) 0 (row .0) ⌝ }
+    ensures { λ r. ⌜ r ≡ validTarget (now (rows .entry)) (now (pairs .entry)) (now (bytes .entry)) (row .0) ⌝ }
 {
     let label = enclosing_target(rows, pairs, bytes, canons, declareds, lists, links, row);
     if label == 0 {

@@ -110,8 +110,8 @@ pub fn label_branches(
 ) -> usize
     requires { ⌜ Tables (now rows) (now pairs) (now bytes) (now canons) (now declareds) (now lists) (suc (row .0)) ⌝ }
     requires { ⌜ Walking (now rows) (now pairs) (now bytes) (row .0) faults (now sheet) (now bindings) (now heads) (now links) ⌝ }
-    requires { ⌜ (row .0 < rowCount (now rows)) × (isLabel (now rows) (now pairs) (now bytes) 0 (row .0) ≡ true) ⌝ }
-    requires { ⌜ latest ≡ word (latestDeclaration (now rows) (now pairs) (now bytes) 0 (row .0)) ⌝ }
+    requires { ⌜ (row .0 < rowCount (now rows)) × (isLabel (now rows) (now pairs) (now bytes) (row .0) ≡ true) ⌝ }
+    requires { ⌜ latest ≡ word (latestDeclaration (now rows) (now pairs) (now bytes) (row .0)) ⌝ }
     ensures { λ r. ⌜ Walked (now (rows .entry)) (now (pairs .entry)) (now (bytes .entry)) (suc (row .0)) r (now (sheet .entry)) (now (bindings .entry)) (now (sheet .exit)) (now (bindings .exit)) (now (heads .exit)) (now (links .entry)) ⌝ }
 {
     let c = tables::canon_of(rows, canons, row);

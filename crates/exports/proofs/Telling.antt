@@ -9,7 +9,7 @@ use native.Mathlib.Omega.{arith}
 use lib.Dec.{ltb, leb}
 use lib.ListN.{length, take, drop}
 use borrow.Author.Tests.{ltb-true, lt-ltb, leb-true, le-leb, lt-leb}
-use Rattle.rules.specs.Rows.{end}
+use Rattle.rules.specs.Rows.{rowCount}
 use Rattle.rules.specs.Names.{pairCount, offset, len, namesOk, nameBytes}
 use Rattle.rules.specs.Refusals.{refusal}
 use Rattle.rules.specs.Placing.{badlyPlaced, placing}
@@ -39,8 +39,8 @@ placed-row w p b r (some x) e f =
     let g : answered (some r) ≡ refused (x .0) (x .1) = f ∙ rw (e, placingCall) in
     absurd (clash (sym (ap isAnswered g)))
 placed-row w p b r none e f =
-    let g : answered (some r) ≡ answered (placing w 0) = f ∙ rw (e, placingCall) in
-    let h = lowest-found (badlyPlaced w 0) (end w 0) r (sym (ap value g)) in
+    let g : answered (some r) ≡ answered (placing w) = f ∙ rw (e, placingCall) in
+    let h = lowest-found (badlyPlaced w) (rowCount w) r (sym (ap value g)) in
     omega (arith, h .0, body w p b e .root-size, body w p b e .most-rows)
 
 pub small-row : (w p b : List ℕ) (r : ℕ) → answered (some r) ≡ placingCall w p b → r < 2000

@@ -24,7 +24,7 @@ use Rattle.rules.proofs.LabelRows.{is-declared, is-labels}
 use Rattle.rules.proofs.GotoRows.{list-some, in-list}
 use Rattle.rules.proofs.Around.{innermost-last}
 use Rattle.rules.proofs.Lists.{statement-list}
-use Rattle.tables.proofs.Labelling.{label-class, body-end}
+use Rattle.tables.proofs.Labelling.{label-class}
 use Rattle.goscript.specs.Syntax.{ident, lookup}
 use Rattle.goscript.specs.Block.{Block, new, insert, search, goto-target, enclosing-target}
 use Rattle.goscript.proofs.SameNames.{same-ident, declared-same, declared-own}
@@ -35,42 +35,42 @@ use Rattle.goscript.proofs.Walking.{visible, targetBefore, BlocksAt, Fi
 -- ---- what a goto sees
 module _ (w p b : List ℕ) where
   -- at the goto itself it is the earlier label
-  pub visible-earlier : (g : ℕ) → visible w p b g g ≡ earlier w p b 0 g
+  pub visible-earlier : (g : ℕ) → visible w p b g g ≡ earlier w p b g
   unfolding visible earlier
   visible-earlier g = refl
 
-  visible-none : (x g : ℕ) → declared w p b 0 g ≡ none → visible w p b x g ≡ none
+  visible-none : (x g : ℕ) → declared w p b g ≡ none → visible w p b x g ≡ none
   unfolding visible
   visible-none x g e = rw (e, visible)
 
-  visible-some : (x g d : ℕ) → declared w p b 0 g ≡ some d → visible w p b x g ≡ elim (ltb d x && inListOf w 0 d g) [ true ↦ some d | false ↦ none ]
+  visible-some : (x g d : ℕ) → declared w p b g ≡ some d → visible w p b x g ≡ elim (ltb d x && inListOf w d g) [ true ↦ some d | false ↦ none ]
   unfolding visible
   visible-some x g d e = rw (e, visible)
 
   -- no label between x and y is one that it sees
-  visible-same : (x y g : ℕ) → x ≤ y → ((d : ℕ) → x ≤ d → d < y → declared w p b 0 g ≡ some d → inListOf w 0 d g ≡ true → ⊥)
+  visible-same : (x y g : ℕ) → x ≤ y → ((d : ℕ) → x ≤ d → d < y → declared w p b g ≡ some d → inListOf w d g ≡ true → ⊥)
       → visible w p b y g ≡ visible w p b x g
-  visible-same x y g h n = case-found (declared w p b 0 g)
+  visible-same x y g h n = case-found (declared w p b g)
       (λ d e. visible-some y g d e ∙ ap (λ (t : Bool). elim t [ true ↦ some d | false ↦ none ]) (seen d e) ∙ sym (visible-some x g d e))
       (λ e. visible-none y g e ∙ sym (visible-none x g e))
     where
-      seen : (d : ℕ) → declared w p b 0 g ≡ some d → (ltb d y && inListOf w 0 d g) ≡ (ltb d x && inListOf w 0 d g)
+      seen : (d : ℕ) → declared w p b g ≡ some d → (ltb d y && inListOf w d g) ≡ (ltb d x && inListOf w d g)
       seen d e = elim (decLt d x) [
         | yes l ↦ rw (lt-ltb d x l, lt-ltb d y (omega arith))
         | no l ↦ elim (decLt d y) [
-          | yes m ↦ rw (lt-ltb d y m, le-ltb d x (omega arith)) (case-of (inListOf w 0 d g) (λ t. absurd (n d (omega arith) m e t)) (λ f. f))
+          | yes m ↦ rw (lt-ltb d y m, le-ltb d x (omega arith)) (case-of (inListOf w d g) (λ t. absurd (n d (omega arith) m e t)) (λ f. f))
           | no m ↦ rw (le-ltb d y (omega arith), le-ltb d x (omega arith))
         ]
       ]
 
-  visible-new : (x g : ℕ) → declared w p b 0 g ≡ some x → inListOf w 0 x g ≡ true → visible w p b (suc x) g ≡ some x
+  visible-new : (x g : ℕ) → declared w p b g ≡ some x → inListOf w x g ≡ true → visible w p b (suc x) g ≡ some x
   visible-new x g e t = rw (visible-some (suc x) g x e, lt-ltb x (suc x) (omega arith), t)
 
-  visible-not-yet : (x g : ℕ) → declared w p b 0 g ≡ some x → visible w p b x g ≡ none
+  visible-not-yet : (x g : ℕ) → declared w p b g ≡ some x → visible w p b x g ≡ none
   visible-not-yet x g e = rw (visible-some x g x e, le-ltb x x (omega arith))
 
   visible-first : (g : ℕ) → visible w p b 0 g ≡ none
-  visible-first g = case-found (declared w p b 0 g)
+  visible-first g = case-found (declared w p b g)
       (λ d e. rw (visible-some 0 g d e, le-ltb d 0 (omega arith)))
       (λ e. visible-none 0 g e)
 
@@ -112,17 +112,17 @@ module _ (w p b : List ℕ) where
 
 module _ {w p b : List ℕ} (body : Body w p b) where
   -- a declared label stands in the body
-  declared-row : (g d : ℕ) → declared w p b 0 g ≡ some d → (d < rowCount w) × (isLabel w p b 0 d ≡ true)
+  declared-row : (g d : ℕ) → declared w p b g ≡ some d → (d < rowCount w) × (isLabel w p b d ≡ true)
   declared-row g d e =
-      let (h, t) = is-declared w p b 0 g d e in
-      (omega (arith, body-end body), is-labels w p b 0 g d t .0)
+      let (h, t) = is-declared w p b g d e in
+      (omega arith, is-labels w p b g d t .0)
 
-  not-declared : (g d : ℕ) → (class w d ≡ labeled → ⊥) → declared w p b 0 g ≡ some d → ⊥
+  not-declared : (g d : ℕ) → (class w d ≡ labeled → ⊥) → declared w p b g ≡ some d → ⊥
   not-declared g d n e = let (h, t) = declared-row g d e in n (label-class body d h t)
 
   -- ---- from row x to row y, where a goto behind sees no label between
   blocks-kept : (l x y : ℕ) (blocks : List Block) → x ≤ y
-      → ((g d : ℕ) → y ≤ g → x ≤ d → d < y → declared w p b 0 g ≡ some d → inListOf w 0 d g ≡ true → ⊥)
+      → ((g d : ℕ) → y ≤ g → x ≤ d → d < y → declared w p b g ≡ some d → inListOf w d g ≡ true → ⊥)
       → BlocksAt w p b l x blocks → BlocksAt w p b l y blocks
   blocks-kept l x y blocks h n a = record {
     innermost = a .innermost;
@@ -133,14 +133,14 @@ module _ {w p b : List ℕ} (body : Body w p b) where
   }
 
   -- ---- a row that declares no label
-  pub blocks-same : (l x : ℕ) (blocks : List Block) → (isLabel w p b 0 x ≡ true → declared w p b 0 x ≡ some x → ⊥)
+  pub blocks-same : (l x : ℕ) (blocks : List Block) → (isLabel w p b x ≡ true → declared w p b x ≡ some x → ⊥)
       → BlocksAt w p b l x blocks → BlocksAt w p b l (suc x) blocks
   blocks-same l x blocks n = blocks-kept l x (suc x) blocks (omega arith) (λ g d m y z e t.
       let i : d ≡ x = omega arith in
       n (rw i at (declared-row g d e .1)) (rw i at (declared-own w p b g d e)))
 
   -- ---- a label declared in the list
-  pub blocks-declare : (l x : ℕ) (blocks : List Block) → declared w p b 0 x ≡ some x → listOf w 0 x ≡ some l
+  pub blocks-declare : (l x : ℕ) (blocks : List Block) → declared w p b x ≡ some x → listOf w x ≡ some l
       → BlocksAt w p b l x blocks → BlocksAt w p b l (suc x) (insert x blocks)
   unfolding insert
   blocks-declare l x blocks e at-list a = rw (a .some-blocks) (declares (a .innermost) (a .parents) (rw (a .some-blocks) at a))
@@ -152,14 +152,14 @@ module _ {w p b : List ℕ} (body : Body w p b) where
         some-blocks = refl;
         gotos = λ g h m k. case-of (sameBytes (ident w p b x) (ident w p b g))
             (λ t.
-            let s : declared w p b 0 g ≡ some x = declared-same w p b g x (same-sym w p b x g (sym (same-ident w p b x g) ∙ t)) ∙ e in
+            let s : declared w p b g ≡ some x = declared-same w p b g x (same-sym w p b x g (sym (same-ident w p b x g) ∙ t)) ∙ e in
             insert-found w p b (ident w p b g) x block parents t (a .gotos g h (omega arith) k ∙ visible-not-yet w p b x g s)
-            ∙ sym (visible-new w p b x g s (rw (list-some w 0 x g l at-list, lt-ltb l g h, lt-ltb g (end w l) k))))
+            ∙ sym (visible-new w p b x g s (rw (list-some w x g l at-list, lt-ltb l g h, lt-ltb g (end w l) k))))
             (λ t. insert-other w p b (ident w p b g) x block parents t ∙ a .gotos g h (omega arith) k
             ∙ sym (visible-same w p b x (suc x) g (omega arith)
             (λ d y z f v.
             let i : d ≡ x = omega arith in
-            let u : sameNames w p b x g ≡ true = rw i at (is-labels w p b 0 g d (is-declared w p b 0 g d f .1) .1) in
+            let u : sameNames w p b x g ≡ true = rw i at (is-labels w p b g d (is-declared w p b g d f .1) .1) in
             clash (cc (same-ident w p b x g)))));
         targets = λ g h m t. insert-targets w p b (ident w p b g) x (block ∷ parents) ∙ a .targets g h m t;
       }
@@ -169,16 +169,16 @@ module _ {w p b : List ℕ} (body : Body w p b) where
       → BlocksAt w p b l k blocks → BlocksAt w p b l (end w k) blocks
   blocks-after l k blocks h row t = blocks-kept l k (end w k) blocks (omega arith) hidden
     where
-      hidden : (g d : ℕ) → end w k ≤ g → k ≤ d → d < end w k → declared w p b 0 g ≡ some d → inListOf w 0 d g ≡ true → ⊥
+      hidden : (g d : ℕ) → end w k ≤ g → k ≤ d → d < end w k → declared w p b g ≡ some d → inListOf w d g ≡ true → ⊥
       hidden g d m y z e v =
           let (in-rows, lb) = declared-row g d e in
           let c = label-class body d in-rows lb in
-          let (q, f, i, j) = in-list w 0 d g v in
+          let (q, f, i, j) = in-list w d g v in
           elim (ℕ-discrete d k) [
             | yes same ↦ let u : false ≡ true = rw (sym same, c) at t in clash (cc)
             | no o ↦ elim (decLt q k) [
-              | yes n ↦ innermost-last w 0 holdsItems d q k (sym (statement-list body 0 d in-rows (rw c)) ∙ f) n
-                  (record { before = omega arith; from = omega arith; reaches = z; passes = t })
+              | yes n ↦ innermost-last w holdsItems d q k (sym (statement-list body d in-rows (rw c)) ∙ f) n
+                  (record { before = omega arith; reaches = z; passes = t })
               | no n ↦
                   let r = list-around w q d f .0 in
                   elim (ℕ-discrete q k) [

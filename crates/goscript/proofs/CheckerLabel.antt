@@ -22,7 +22,6 @@ use Rattle.rules.proofs.RowNames.{same-own}
 use Rattle.rules.proofs.LabelRows.{labels-is, some-declared}
 use Rattle.rules.proofs.SheetRows.{repeated-not, repeated-is, report-label}
 use Rattle.branches.specs.Walk.{faultsAt}
-use Rattle.tables.proofs.Labelling.{body-end}
 use Rattle.branches.proofs.WalkFaults.{faults-suc}
 use Rattle.goscript.specs.Syntax.{through, contains, ident, lookup}
 use Rattle.goscript.specs.Context.{Context}
@@ -42,31 +41,31 @@ pub declare-ctx : (w p b : List ℕ) (x : ℕ) (s : State) → declare w p b x s
 unfolding declare
 declare-ctx w p b x s = case-found (lookup w p b (ident w p b x) (s .checker .all)) (λ d e. rw (e, declare)) (λ e. rw (e, declare))
 
-module _ {w p b : List ℕ} (body : Body w p b) (x : ℕ) (row : x < rowCount w) (label : isLabel w p b 0 x ≡ true) where
+module _ {w p b : List ℕ} (body : Body w p b) (x : ℕ) (row : x < rowCount w) (label : isLabel w p b x ≡ true) where
   -- ---- the label's own work
   record Placed (c e : Checker) : Type 0 where
     all-are : e .all ≡ allAt w p b (suc x)
-    errors-are : e .errors ≡ c .errors ++ repeated w p b 0 x
-    defs-are : (r : ℕ) → contains r (e .defs) ≡ (ltb r (suc x) && (isLabel w p b 0 r && is (declared w p b 0 r) r))
+    errors-are : e .errors ≡ c .errors ++ repeated w p b x
+    defs-are : (r : ℕ) → contains r (e .defs) ≡ (ltb r (suc x) && (isLabel w p b r && is (declared w p b r) r))
     same-uses : e .uses ≡ c .uses
     same-used : e .used ≡ c .used
 
   -- it is the first of its name, or a label before it is
-  pub by-first : {G : Type 0} → (declared w p b 0 x ≡ some x → G) → ((d : ℕ) → declared w p b 0 x ≡ some d → d < x → G) → G
+  pub by-first : {G : Type 0} → (declared w p b x ≡ some x → G) → ((d : ℕ) → declared w p b x ≡ some d → d < x → G) → G
   by-first first again =
-      let (d, e, h) = some-declared w p b 0 x x (omega (arith, body-end body)) (labels-is w p b 0 x x label (same-own w p b x)) in
+      let (d, e, h) = some-declared w p b x x (omega arith) (labels-is w p b x x label (same-own w p b x)) in
       elim (ℕ-discrete d x) [ yes i ↦ first (e ∙ ap some i) | no n ↦ again d e (omega arith) ]
 
   module _ (s : State) (at : CheckerAt w p b x (s .checker)) where
     -- the declared label of its name
-    first-placed : declared w p b 0 x ≡ some x → Placed (s .checker) (declare w p b x s .checker)
+    first-placed : declared w p b x ≡ some x → Placed (s .checker) (declare w p b x s .checker)
     unfolding declare
     first-placed e =
         rw (none-yet body x x x (s .checker) at e (omega arith), declare) (record {
           all-are = rw (at .all-are) (all-placed body x row label e);
-          errors-are = rw (repeated-not w p b 0 x e) (sym (append-nil (s .checker .errors)));
+          errors-are = rw (repeated-not w p b x e) (sym (append-nil (s .checker .errors)));
           defs-are = λ r. elim (ℕ-discrete r x) [
-            | yes i ↦ contains-own r x (s .checker .defs) i ∙ sym (rw (i, lt-ltb x (suc x) (omega arith), label) (found-is (declared w p b 0 x) x e))
+            | yes i ↦ contains-own r x (s .checker .defs) i ∙ sym (rw (i, lt-ltb x (suc x) (omega arith), label) (found-is (declared w p b x) x e))
             | no o ↦ contains-more r x (s .checker .defs) ∙ rw (ne-eqb r x o, below-other r x o) (at .defs-are r)
           ];
           same-uses = refl;
@@ -74,13 +73,13 @@ module _ {w p b : List ℕ} (body : Body w p b) (x : ℕ) (row : x < rowCount w)
         })
 
     -- one more label of a name
-    again-placed : (d : ℕ) → declared w p b 0 x ≡ some d → d < x → Placed (s .checker) (declare w p b x s .checker)
+    again-placed : (d : ℕ) → declared w p b x ≡ some d → d < x → Placed (s .checker) (declare w p b x s .checker)
     unfolding declare
     again-placed d e h =
         let n : d ≡ x → ⊥ = λ i. omega arith in
         rw (found-before body x x d (s .checker) at e h, declare) (record {
           all-are = at .all-are ∙ sym (all-same body x (λ t f. n (cc)));
-          errors-are = rw (repeated-is w p b 0 x d e n);
+          errors-are = rw (repeated-is w p b x d e n);
           defs-are = λ r. at .defs-are r ∙ elim (ℕ-discrete r x) [
             | yes i ↦ rw (i, le-ltb x x (omega arith), lt-ltb x (suc x) (omega arith), label, e) (sym (ne-eqb d x n))
             | no o ↦ rw (below-other r x o)
@@ -93,7 +92,7 @@ module _ {w p b : List ℕ} (body : Body w p b) (x : ℕ) (row : x < rowCount w)
     placed = by-first first-placed again-placed
 
   -- ---- the jumps that it resolves
-  module _ (l : ℕ) (listed : listOf w 0 x ≡ some l) (c e : Checker) (ctx : Context) (at : CheckerAt w p b x c) (in-list : ContextAt w p b l x ctx)
+  module _ (l : ℕ) (listed : listOf w x ≡ some l) (c e : Checker) (ctx : Context) (at : CheckerAt w p b x c) (in-list : ContextAt w p b l x ctx)
       (first : Placed c e) where
     abbrev after : Checker
     after = through (resolve w p b x ctx) (passing (waits w p b l x) x) e
@@ -104,14 +103,14 @@ module _ {w p b : List ℕ} (body : Body w p b) (x : ℕ) (row : x < rowCount w)
     abbrev found : ℕ → List Fault
     found = reports w p b x ctx (waits w p b l x)
 
-    reported : each found x ≡ each (jumpsOver w p b 0 x) x
-    reported = each-same found (jumpsOver w p b 0 x) x (λ g h. case-of (takes w p b l x g)
+    reported : each found x ≡ each (jumpsOver w p b x) x
+    reported = each-same found (jumpsOver w p b x) x (λ g h. case-of (takes w p b l x g)
         (λ t. reports-is w p b x ctx (waits w p b l x) g t ∙ over-taken body l x row label listed g h ctx in-list t)
         (λ f. reports-not w p b x ctx (waits w p b l x) g f ∙ sym (over-not body l x row label listed g h f)))
 
     all-errors : e .errors ++ each found x ≡ faultsAt w p b (suc x)
     all-errors = rw (first .errors-are, at .errors-are, reported)
-        (append-assoc (faultsAt w p b x) (repeated w p b 0 x) (each (jumpsOver w p b 0 x) x) ∙ sym (faults-suc w p b x ∙ rw (report-label w p b 0 x label)))
+        (append-assoc (faultsAt w p b x) (repeated w p b x) (each (jumpsOver w p b x) x) ∙ sym (faults-suc w p b x ∙ rw (report-label w p b x label)))
 
     by-taken : {G : Type 0} (g : ℕ) → (g < x → takes w p b l x g ≡ true → G) → ((g < x → takes w p b l x g ≡ false) → G) → G
     by-taken g yes-taken not-taken = elim (decLt g x) [
@@ -143,7 +142,7 @@ module _ {w p b : List ℕ} (body : Body w p b) (x : ℕ) (row : x < rowCount w)
     }
 
 pub label-checker : {w p b : List ℕ} (body : Body w p b) (l x : ℕ) (s : State)
-    → x < rowCount w → isLabel w p b 0 x ≡ true → listOf w 0 x ≡ some l → CheckerAt w p b x (s .checker) → ContextAt w p b l x (s .ctx)
+    → x < rowCount w → isLabel w p b x ≡ true → listOf w x ≡ some l → CheckerAt w p b x (s .checker) → ContextAt w p b l x (s .ctx)
     → CheckerAt w p b (suc x) (resolveAll w p b x (declare w p b x s) .checker)
 unfolding resolveAll jumpsAt
 label-checker {w} {p} {b} body l x s row label listed at in-list =

@@ -26,7 +26,6 @@ use Rattle.rules.proofs.BreakRows.{is-valid, labelled-is, not-labelled, other-l
 use Rattle.rules.proofs.BindingRows.{branch-label, binding-break, binding-invalid, binding-other}
 use Rattle.rules.proofs.SheetRows.{report-valid, report-break, report-continue, report-fallthrough, report-other}
 use Rattle.branches.specs.Walk.{bindingAt}
-use Rattle.tables.proofs.Labelling.{body-end}
 use Rattle.branches.proofs.WalkFaults.{faults-suc}
 use Rattle.branches.proofs.WalkBindings.{at-goto, at-later, at-other, not-later, later-own, binding-same}
 use Rattle.goscript.specs.Syntax.{ident, lookup}
@@ -49,21 +48,21 @@ abbrev pub breakCode : Class → ℕ
 breakCode k = elim (oneOf (break ∷ []) k) [ true ↦ 4 | false ↦ 5 ]
 
 -- the target of a branch has its name and stands before it
-target-names : (w p b : List ℕ) (x t : ℕ) → target w p b 0 x ≡ some t → (t < x) × (labels w p b 0 x t ≡ true)
+target-names : (w p b : List ℕ) (x t : ℕ) → target w p b x ≡ some t → (t < x) × (labels w p b x t ≡ true)
 unfolding target
 target-names w p b x t e =
-    let names : ℕ → Bool = λ t. labels w p b 0 x t && (lastInRun w p b 0 t && inBlockOf w p b 0 t x) in
-    let f = highest-found (λ t. around w 0 x t && names t) x t e in
-    let a = and-true (around w 0 x t) (names t) (f .1) in
-    (f .0, and-true (labels w p b 0 x t) (lastInRun w p b 0 t && inBlockOf w p b 0 t x) (a .1) .0)
+    let names : ℕ → Bool = λ t. labels w p b x t && (lastInRun w p b t && inBlockOf w p b t x) in
+    let f = highest-found (λ t. around w x t && names t) x t e in
+    let a = and-true (around w x t) (names t) (f .1) in
+    (f .0, and-true (labels w p b x t) (lastInRun w p b t && inBlockOf w p b t x) (a .1) .0)
 
 module _ {w p b : List ℕ} (body : Body w p b) where
   -- ---- a row that is no label
-  module _ (x : ℕ) (n : isLabel w p b 0 x ≡ false) where
+  module _ (x : ℕ) (n : isLabel w p b x ≡ false) where
     all-kept : allAt w p b (suc x) ≡ allAt w p b x
     all-kept = all-same body x (λ t d. clash (cc))
 
-    definition-kept : (r : ℕ) → (ltb r (suc x) && (isLabel w p b 0 r && is (declared w p b 0 r) r)) ≡ (ltb r x && (isLabel w p b 0 r && is (declared w p b 0 r) r))
+    definition-kept : (r : ℕ) → (ltb r (suc x) && (isLabel w p b r && is (declared w p b r) r)) ≡ (ltb r x && (isLabel w p b r && is (declared w p b r) r))
     definition-kept r = elim (ℕ-discrete r x) [
       | yes e ↦ rw (e, n, lt-ltb x (suc x) (omega arith), le-ltb x x (omega arith))
       | no o ↦ rw (below-other r x o)
@@ -77,7 +76,7 @@ module _ {w p b : List ℕ} (body : Body w p b) where
     none-used h g = use-same w p b x g h (λ m. binding-same w p b x g (not-later w p b x g n))
 
   -- one that reports these faults and is bound to nothing
-  checker-error : (x : ℕ) (c : Checker) (fs : List Fault) → isLabel w p b 0 x ≡ false → report w p b 0 x ≡ fs
+  checker-error : (x : ℕ) (c : Checker) (fs : List Fault) → isLabel w p b x ≡ false → report w p b x ≡ fs
       → (isBranch (class w x) ≡ true → bindingAt w p b (suc x) x ≡ 0) → CheckerAt w p b x c → CheckerAt w p b (suc x) (error fs c)
   checker-error x c fs n r h y = record {
     all-are = y .all-are ∙ sym (all-kept x n);
@@ -89,12 +88,12 @@ module _ {w p b : List ℕ} (body : Body w p b) where
   }
 
   -- none at all
-  checker-same : (x : ℕ) (c : Checker) → isLabel w p b 0 x ≡ false → report w p b 0 x ≡ []
+  checker-same : (x : ℕ) (c : Checker) → isLabel w p b x ≡ false → report w p b x ≡ []
       → (isBranch (class w x) ≡ true → bindingAt w p b (suc x) x ≡ 0) → CheckerAt w p b x c → CheckerAt w p b (suc x) c
   checker-same x c n r h y = subst (λ (e : Checker). CheckerAt w p b (suc x) e) (error-none c) (checker-error x c [] n r h y)
 
   -- ---- a branch that is bound to the label d
-  checker-use : (x d : ℕ) (c : Checker) → isBranch (class w x) ≡ true → report w p b 0 x ≡ [] → bindingAt w p b (suc x) x ≡ suc d
+  checker-use : (x d : ℕ) (c : Checker) → isBranch (class w x) ≡ true → report w p b x ≡ [] → bindingAt w p b (suc x) x ≡ suc d
       → CheckerAt w p b x c → CheckerAt w p b (suc x) (record-use x d (label-set-used d c))
   checker-use x d c t r e y = record {
     all-are = y .all-are ∙ sym (all-kept x n);
@@ -114,8 +113,8 @@ module _ {w p b : List ℕ} (body : Body w p b) where
     ];
   }
     where
-      n : isLabel w p b 0 x ≡ false
-      n = branch-label w p b 0 x t
+      n : isLabel w p b x ≡ false
+      n = branch-label w p b x t
 
       own : useAt w p b (suc x) x ≡ suc d
       own = use-branch w p b (suc x) x (omega arith) t ∙ e
@@ -126,35 +125,35 @@ module _ {w p b : List ℕ} (body : Body w p b) where
   -- ---- the rows by class
   module _ (x : ℕ) where
     -- a row that is neither a label nor a branch
-    pub quiet-row : (c : Checker) → isBranch (class w x) ≡ false → isLabel w p b 0 x ≡ false → CheckerAt w p b x c → CheckerAt w p b (suc x) c
+    pub quiet-row : (c : Checker) → isBranch (class w x) ≡ false → isLabel w p b x ≡ false → CheckerAt w p b x c → CheckerAt w p b (suc x) c
     quiet-row c f n y = checker-same x c n
-        (report-other w p b 0 x n
-        (not-labelled w p b 0 x (λ z. clash (cc (break-branch (class w x) (z .breaks)))))
+        (report-other w p b x n
+        (not-labelled w p b x (λ z. clash (cc (break-branch (class w x) (z .breaks)))))
         (λ z. clash (cc (branch-fallthrough (class w x) (z .falls-through)))))
         (λ t. absurd (clash (cc))) y
 
     -- a fallthrough with a label
     pub fallthrough-labelled : (c : Checker) → class w x ≡ fallthrough → 0 < name w x → CheckerAt w p b x c → CheckerAt w p b (suc x) (error (fault w 6 x ∷ []) c)
     fallthrough-labelled c k z y =
-        let n = branch-label w p b 0 x (branch-fallthrough (class w x) k) in
-        let m = other-labelled w p b 0 x (rw k) in
+        let n = branch-label w p b x (branch-fallthrough (class w x) k) in
+        let m = other-labelled w p b x (rw k) in
         let o : class w x ≡ goto → ⊥ = λ e. clash (cc) in
         checker-error x c (fault w 6 x ∷ []) n
-        (report-fallthrough w p b 0 x n m (record { from = omega arith; falls-through = k; has-name = z }))
-        (λ t. at-other w p b (suc x) x o ∙ binding-other w p b 0 x n o m) y
+        (report-fallthrough w p b x n m (record { falls-through = k; has-name = z }))
+        (λ t. at-other w p b (suc x) x o ∙ binding-other w p b x n o m) y
 
     module _ (row : x < rowCount w) where
       -- a branch without a label
       pub unlabelled : (c : Checker) → isBranch (class w x) ≡ true → name w x ≡ 0 → CheckerAt w p b x c → CheckerAt w p b (suc x) c
       unlabelled c t z y =
-          let n = branch-label w p b 0 x t in
-          let m = not-labelled w p b 0 x (λ u. omega (arith, u .has-name)) in
+          let n = branch-label w p b x t in
+          let m = not-labelled w p b x (λ u. omega (arith, u .has-name)) in
           let o : class w x ≡ goto → ⊥ = λ e. omega (arith, goto-named body x row e) in
-          checker-same x c n (report-other w p b 0 x n m (λ u. omega (arith, u .has-name)))
-          (λ t. at-other w p b (suc x) x o ∙ binding-other w p b 0 x n o m) y
+          checker-same x c n (report-other w p b x n m (λ u. omega (arith, u .has-name)))
+          (λ t. at-other w p b (suc x) x o ∙ binding-other w p b x n o m) y
 
       -- a branch bound to the declared label of its name, which stands before it
-      use-recorded : (s : State) (d : ℕ) → declared w p b 0 x ≡ some d → d < x → isBranch (class w x) ≡ true → report w p b 0 x ≡ []
+      use-recorded : (s : State) (d : ℕ) → declared w p b x ≡ some d → d < x → isBranch (class w x) ≡ true → report w p b x ≡ []
           → bindingAt w p b (suc x) x ≡ suc d → CheckerAt w p b x (s .checker) → CheckerAt w p b (suc x) (recordLabelUse w p b x s .checker)
       unfolding recordLabelUse
       use-recorded s d e h t r i y =
@@ -165,44 +164,44 @@ module _ {w p b : List ℕ} (body : Body w p b) where
         break-class : oneOf (break ∷ continue ∷ []) (class w x) ≡ true
         break-class = rw e breaks
 
-        break-label : isLabel w p b 0 x ≡ false
-        break-label = branch-label w p b 0 x (break-branch (class w x) break-class)
+        break-label : isLabel w p b x ≡ false
+        break-label = branch-label w p b x (break-branch (class w x) break-class)
 
         break-goto : class w x ≡ goto → ⊥
         break-goto i = let y : false ≡ true = rw i at break-class in clash (cc)
 
-        has-label : labelledBreak w p b 0 x ≡ true
-        has-label = labelled-is w p b 0 x (record { from = omega arith; breaks = break-class; has-name = z })
+        has-label : labelledBreak w p b x ≡ true
+        has-label = labelled-is w p b x (record { breaks = break-class; has-name = z })
 
-        pub break-invalid : (c : Checker) → validTarget w p b 0 x ≡ false → CheckerAt w p b x c → CheckerAt w p b (suc x) (error (fault w (breakCode k) x ∷ []) c)
+        pub break-invalid : (c : Checker) → validTarget w p b x ≡ false → CheckerAt w p b x c → CheckerAt w p b (suc x) (error (fault w (breakCode k) x ∷ []) c)
         break-invalid c v y = checker-error x c (fault w (breakCode k) x ∷ []) break-label
             (by-break k breaks
-            (λ i. rw i (report-break w p b 0 x break-label has-label v (e ∙ i)))
-            (λ i. rw i (report-continue w p b 0 x break-label has-label v (e ∙ i))))
-            (λ t. at-other w p b (suc x) x break-goto ∙ binding-invalid w p b 0 x break-label break-goto v) y
+            (λ i. rw i (report-break w p b x break-label has-label v (e ∙ i)))
+            (λ i. rw i (report-continue w p b x break-label has-label v (e ∙ i))))
+            (λ t. at-other w p b (suc x) x break-goto ∙ binding-invalid w p b x break-label break-goto v) y
 
-        pub break-valid : (s : State) → validTarget w p b 0 x ≡ true → CheckerAt w p b x (s .checker)
+        pub break-valid : (s : State) → validTarget w p b x ≡ true → CheckerAt w p b x (s .checker)
             → CheckerAt w p b (suc x) (recordLabelUse w p b x s .checker)
         break-valid s v y =
-            let (t, f, u) = is-valid w p b 0 x v in
+            let (t, f, u) = is-valid w p b x v in
             let (h, l) = target-names w p b x t f in
-            let (d, i, m) = some-declared w p b 0 x t (omega (arith, body-end body)) l in
-            use-recorded s d i (omega arith) (break-branch (class w x) break-class) (report-valid w p b 0 x break-label has-label v)
-            (at-other w p b (suc x) x break-goto ∙ binding-break w p b 0 x break-label break-goto has-label v ∙ ap word i) y
+            let (d, i, m) = some-declared w p b x t (omega arith) l in
+            use-recorded s d i (omega arith) (break-branch (class w x) break-class) (report-valid w p b x break-label has-label v)
+            (at-other w p b (suc x) x break-goto ∙ binding-break w p b x break-label break-goto has-label v ∙ ap word i) y
 
       -- a goto
       module _ (k : class w x ≡ goto) where
-        goto-report : report w p b 0 x ≡ []
-        goto-report = report-other w p b 0 x (branch-label w p b 0 x (branch-goto (class w x) k)) (other-labelled w p b 0 x (rw k)) (λ y. clash (cc (y .falls-through)))
+        goto-report : report w p b x ≡ []
+        goto-report = report-other w p b x (branch-label w p b x (branch-goto (class w x) k)) (other-labelled w p b x (rw k)) (λ y. clash (cc (y .falls-through)))
 
-        pub goto-bound : (s : State) (d : ℕ) → earlier w p b 0 x ≡ some d → CheckerAt w p b x (s .checker)
+        pub goto-bound : (s : State) (d : ℕ) → earlier w p b x ≡ some d → CheckerAt w p b x (s .checker)
             → CheckerAt w p b (suc x) (recordLabelUse w p b x s .checker)
         goto-bound s d e y =
-            let i = is-earlier w p b 0 x d e in
+            let i = is-earlier w p b x d e in
             use-recorded s d (i .0) (i .1) (branch-goto (class w x) k) goto-report (at-goto w p b (suc x) x d k e) y
 
-        pub goto-waits : (c : Checker) → earlier w p b 0 x ≡ none → CheckerAt w p b x c → CheckerAt w p b (suc x) c
-        goto-waits c e y = checker-same x c (branch-label w p b 0 x (branch-goto (class w x) k)) goto-report
+        pub goto-waits : (c : Checker) → earlier w p b x ≡ none → CheckerAt w p b x c → CheckerAt w p b (suc x) c
+        goto-waits c e y = checker-same x c (branch-label w p b x (branch-goto (class w x) k)) goto-report
             (λ t. at-later w p b (suc x) x k e ∙ ap word (later-own w p b x)) y
 
 -- ---- the rest of the state stays

@@ -35,20 +35,20 @@ module _ {w p b : List ℕ} (body : Body w p b) (k : ℕ) (row : k < rowCount w)
   other-class c f e = let t : holdsItems c ≡ true = rw e at items in clash (cc)
 
   -- the list of a statement below it
-  list-below : (r m : ℕ) → k < r → r < end w k → isStatement (class w r) ≡ true → listOf w 0 r ≡ some m → k ≤ m
+  list-below : (r m : ℕ) → k < r → r < end w k → isStatement (class w r) ≡ true → listOf w r ≡ some m → k ≤ m
   list-below r m h l s e = elim (decLt m k) [
-    | yes o ↦ absurd (innermost-last w 0 holdsItems r m k (sym (statement-list body 0 r (omega (arith, body .sized .within k row)) s) ∙ e) o
-        (record { before = h; from = omega arith; reaches = l; passes = items }))
+    | yes o ↦ absurd (innermost-last w holdsItems r m k (sym (statement-list body r (omega (arith, body .sized .within k row)) s) ∙ e) o
+        (record { before = h; reaches = l; passes = items }))
     | no o ↦ omega arith
   ]
 
   -- no row from it on, before its end, is a later label of a goto before it
-  none-resolves : (g r : ℕ) → g < k → k ≤ r → r < end w k → isLater w p b 0 g r ≡ false
-  none-resolves g r h i j = case-of (isLater w p b 0 g r)
+  none-resolves : (g r : ℕ) → g < k → k ≤ r → r < end w k → isLater w p b g r ≡ false
+  none-resolves g r h i j = case-of (isLater w p b g r)
       (λ t.
-      let x = later-parts w p b 0 g r t in
-      let labels = label-class body r (omega (arith, body .sized .within k row)) (is-labels w p b 0 g r (x .1) .0) in
-      let (m, e, f, n) = in-list w 0 r g (x .2) in
+      let x = later-parts w p b g r t in
+      let labels = label-class body r (omega (arith, body .sized .within k row)) (is-labels w p b g r (x .1) .0) in
+      let (m, e, f, n) = in-list w r g (x .2) in
       elim (ℕ-discrete r k) [
         | yes y ↦ absurd (other-class labeled refl (rw y at labels))
         | no y ↦ let z = list-below r m (omega arith) j (rw labels) e in absurd (omega arith)
@@ -56,13 +56,13 @@ module _ {w p b : List ℕ} (body : Body w p b) (k : ℕ) (row : k < rowCount w)
       (λ f. f)
 
   -- so a goto before it is as pending at its end as at it
-  pending-past : (g : ℕ) → g < k → pending w p b 0 (end w k) g ≡ pending w p b 0 k g
-  pending-past g h = case-of (pending w p b 0 k g)
-      (λ t. pending-at w p b (end w k) k g (none-later w p b 0 (end w k) g (λ r l. elim (decLt r k) [
-        | yes y ↦ later-none w p b 0 k g r (is-pending w p b 0 k g t .no-later) y
+  pending-past : (g : ℕ) → g < k → pending w p b (end w k) g ≡ pending w p b k g
+  pending-past g h = case-of (pending w p b k g)
+      (λ t. pending-at w p b (end w k) k g (none-later w p b (end w k) g (λ r l. elim (decLt r k) [
+        | yes y ↦ later-none w p b k g r (is-pending w p b k g t .no-later) y
         | no n ↦ none-resolves g r h (omega arith) l
       ])) t ∙ sym t)
-      (λ f. case-of (pending w p b 0 (end w k) g)
+      (λ f. case-of (pending w p b (end w k) g)
       (λ t. absurd (clash (cc (pending-before w p b k (end w k) g (omega arith) t))))
       (λ u. u ∙ sym f))
 
@@ -83,7 +83,7 @@ module _ {w p b : List ℕ} (body : Body w p b) (k : ℕ) (row : k < rowCount w)
       (λ g i. rw (le-ltb k g (omega arith)))
       (λ g i j. elim (ℕ-discrete g k) [
         | yes y ↦
-            let f : pending w p b 0 (end w k) g ≡ false = pending-other w p b (end w k) g (λ c. other-class goto refl (rw y at c)) in
+            let f : pending w p b (end w k) g ≡ false = pending-other w p b (end w k) g (λ c. other-class goto refl (rw y at c)) in
             not-waits w p b l (end w k) g f ∙ sym (not-waits w p b k (end w k) g f)
         | no n ↦ rw (lt-ltb l g (omega arith), lt-ltb k g (omega arith))
       ])

@@ -36,57 +36,57 @@ use Rattle.goscript.proofs.Passing.{passing, passing-none, passing-yes,
 use Rattle.goscript.proofs.Walking.{jumpsAt, ContextAt}
 
 -- ---- the list of a row is around it, and around what stands between
-pub list-around : (w : List ℕ) (l d : ℕ) → listOf w 0 d ≡ some l → (l < d) × (d < end w l)
+pub list-around : (w : List ℕ) (l d : ℕ) → listOf w d ≡ some l → (l < d) × (d < end w l)
 unfolding listOf
-list-around w l d e = let i = innermost-found w 0 isList d l e in (i .before, i .reaches)
+list-around w l d e = let i = innermost-found w isList d l e in (i .before, i .reaches)
 
-pub in-its-list : (w : List ℕ) (l d g : ℕ) → listOf w 0 d ≡ some l → l < g → g < d → inListOf w 0 d g ≡ true
-in-its-list w l d g e h m = list-some w 0 d g l e ∙ rw (lt-ltb l g h, lt-ltb g (end w l) (omega (arith, list-around w l d e .1)))
+pub in-its-list : (w : List ℕ) (l d g : ℕ) → listOf w d ≡ some l → l < g → g < d → inListOf w d g ≡ true
+in-its-list w l d g e h m = list-some w d g l e ∙ rw (lt-ltb l g h, lt-ltb g (end w l) (omega (arith, list-around w l d e .1)))
 
 module _ (w p b : List ℕ) where
   -- ---- the pending gotos
   abbrev pub waits : ℕ → ℕ → ℕ → Bool
-  waits l x g = ltb l g && pending w p b 0 x g
+  waits l x g = ltb l g && pending w p b x g
 
   -- what is pending at one row is so at another where no label before that one resolves it
-  pub pending-at : (x y g : ℕ) → later w p b 0 x g ≡ none → pending w p b 0 y g ≡ true → pending w p b 0 x g ≡ true
+  pub pending-at : (x y g : ℕ) → later w p b x g ≡ none → pending w p b y g ≡ true → pending w p b x g ≡ true
   pending-at x y g n t =
-      let i = is-pending w p b 0 y g t in
-      pending-is w p b 0 x g (record { from = i .from; gotos = i .gotos; no-earlier = i .no-earlier; no-later = n })
+      let i = is-pending w p b y g t in
+      pending-is w p b x g (record { gotos = i .gotos; no-earlier = i .no-earlier; no-later = n })
 
   -- so at every row before
-  pub pending-before : (x y g : ℕ) → x ≤ y → pending w p b 0 y g ≡ true → pending w p b 0 x g ≡ true
+  pub pending-before : (x y g : ℕ) → x ≤ y → pending w p b y g ≡ true → pending w p b x g ≡ true
   pending-before x y g h t =
-      pending-at x y g (none-later w p b 0 x g (λ k l. later-none w p b 0 y g k (is-pending w p b 0 y g t .no-later) (omega arith))) t
+      pending-at x y g (none-later w p b x g (λ k l. later-none w p b y g k (is-pending w p b y g t .no-later) (omega arith))) t
 
-  pub not-waits : (l x g : ℕ) → pending w p b 0 x g ≡ false → waits l x g ≡ false
+  pub not-waits : (l x g : ℕ) → pending w p b x g ≡ false → waits l x g ≡ false
   not-waits l x g f = rw (f, and-false (ltb l g))
 
   -- a row that is no label changes none of those before it
-  waits-same : (l x : ℕ) → isLabel w p b 0 x ≡ false → passing (waits l (suc x)) x ≡ jumpsAt w p b l x
+  waits-same : (l x : ℕ) → isLabel w p b x ≡ false → passing (waits l (suc x)) x ≡ jumpsAt w p b l x
   unfolding jumpsAt
   waits-same l x n = passing-same (waits l (suc x)) (waits l x) x (λ g h. rw (pending-same w p b x g (not-later w p b x g n)))
 
   -- ---- the latest declaration of the list
   abbrev pub declares : ℕ → ℕ → Bool
-  declares l d = isClass w declaration d && is (listOf w 0 d) l
+  declares l d = isClass w declaration d && is (listOf w d) l
 
-  pub not-declares : (l d : ℕ) → (class w d ≡ declaration → listOf w 0 d ≡ some l → ⊥) → declares l d ≡ false
+  pub not-declares : (l d : ℕ) → (class w d ≡ declaration → listOf w d ≡ some l → ⊥) → declares l d ≡ false
   not-declares l d n = case-of (declares l d)
       (λ t.
-      let a = and-true (isClass w declaration d) (is (listOf w 0 d) l) t in
-      absurd (n (is-one (class w d) declaration (a .0)) (is-found (listOf w 0 d) l (a .1))))
+      let a = and-true (isClass w declaration d) (is (listOf w d) l) t in
+      absurd (n (is-one (class w d) declaration (a .0)) (is-found (listOf w d) l (a .1))))
       (λ f. f)
 
   latest-none : (l : ℕ) → latestIn w p b l (suc l) ≡ none
   unfolding latestIn
   latest-none l = none-highest (declares l) (suc l) (λ d h. not-declares l d (λ c e. omega (arith, list-around w l d e .0)))
 
-  latest-own : (l x : ℕ) → class w x ≡ declaration → listOf w 0 x ≡ some l → latestIn w p b l (suc x) ≡ some x
+  latest-own : (l x : ℕ) → class w x ≡ declaration → listOf w x ≡ some l → latestIn w p b l (suc x) ≡ some x
   unfolding latestIn
-  latest-own l x c e = highest-yes (declares l) x (rw (one-is (class w x) declaration c, found-is (listOf w 0 x) l e))
+  latest-own l x c e = highest-yes (declares l) x (rw (one-is (class w x) declaration c, found-is (listOf w x) l e))
 
-  latest-same : (l x : ℕ) → (class w x ≡ declaration → listOf w 0 x ≡ some l → ⊥) → latestIn w p b l (suc x) ≡ latestIn w p b l x
+  latest-same : (l x : ℕ) → (class w x ≡ declaration → listOf w x ≡ some l → ⊥) → latestIn w p b l (suc x) ≡ latestIn w p b l x
   unfolding latestIn
   latest-same l x n = highest-no (declares l) x (not-declares l x n)
 
@@ -100,16 +100,16 @@ module _ (w p b : List ℕ) where
   }
 
   -- ---- the jumps, one row further
-  jumps-no : (l x : ℕ) → isLabel w p b 0 x ≡ false → pending w p b 0 (suc x) x ≡ false → jumpsAt w p b l (suc x) ≡ jumpsAt w p b l x
+  jumps-no : (l x : ℕ) → isLabel w p b x ≡ false → pending w p b (suc x) x ≡ false → jumpsAt w p b l (suc x) ≡ jumpsAt w p b l x
   unfolding jumpsAt
   jumps-no l x n f = passing-no (waits l (suc x)) x (not-waits l (suc x) x f) ∙ waits-same l x n
 
-  jumps-yes : (l x : ℕ) → l < x → isLabel w p b 0 x ≡ false → pending w p b 0 (suc x) x ≡ true → jumpsAt w p b l (suc x) ≡ jumpsAt w p b l x ++ x ∷ []
+  jumps-yes : (l x : ℕ) → l < x → isLabel w p b x ≡ false → pending w p b (suc x) x ≡ true → jumpsAt w p b l (suc x) ≡ jumpsAt w p b l x ++ x ∷ []
   unfolding jumpsAt
   jumps-yes l x h n t = passing-yes (waits l (suc x)) x (rw (lt-ltb l x h, t)) ∙ ap (λ (js : List ℕ). js ++ x ∷ []) (waits-same l x n)
 
   -- a goto from row x on is none of them, and one before it that is pending is one
-  jumps-contain : (l x g : ℕ) → l < g → (g < x → pending w p b 0 x g ≡ true) → contains g (jumpsAt w p b l x) ≡ ltb g x
+  jumps-contain : (l x g : ℕ) → l < g → (g < x → pending w p b x g ≡ true) → contains g (jumpsAt w p b l x) ≡ ltb g x
   unfolding jumpsAt
   jumps-contain l x g h t = contains-passing (waits l x) x g ∙ elim (decLt g x) [
     | yes k ↦ rw (lt-ltb g x k, lt-ltb l g h, t k)
@@ -120,21 +120,21 @@ module _ (w p b : List ℕ) where
   abbrev other : ℕ → ℕ → Bool
   other x g = not (sameBytes (ident w p b g) (ident w p b x))
 
-  waits-label : (l x g : ℕ) → isLabel w p b 0 x ≡ true → listOf w 0 x ≡ some l → g < x → waits l (suc x) g ≡ (waits l x g && other x g)
+  waits-label : (l x g : ℕ) → isLabel w p b x ≡ true → listOf w x ≡ some l → g < x → waits l (suc x) g ≡ (waits l x g && other x g)
   waits-label l x g t e h = case-of (ltb l g)
       (λ u. rw u (case-of (sameBytes (ident w p b g) (ident w p b x))
       (λ v.
-      let names = labels-is w p b 0 g x t (same-sym w p b g x (sym (same-ident w p b g x) ∙ v)) in
-      let z = parts-later w p b 0 g x h names (in-its-list w l x g e (ltb-true l g u) h) in
-      rw (v, pending-found w p b x g z, and-false (pending w p b 0 x g)))
+      let names = labels-is w p b g x t (same-sym w p b g x (sym (same-ident w p b g x) ∙ v)) in
+      let z = parts-later w p b g x h names (in-its-list w l x g e (ltb-true l g u) h) in
+      rw (v, pending-found w p b x g z, and-false (pending w p b x g)))
       (λ v.
-      let z : isLater w p b 0 g x ≡ false = case-of (isLater w p b 0 g x)
-      (λ y. let s = same-sym w p b x g (is-labels w p b 0 g x (later-parts w p b 0 g x y .1) .1) in absurd (clash (cc (same-ident w p b g x))))
+      let z : isLater w p b g x ≡ false = case-of (isLater w p b g x)
+      (λ y. let s = same-sym w p b x g (is-labels w p b g x (later-parts w p b g x y .1) .1) in absurd (clash (cc (same-ident w p b g x))))
       (λ y. y) in
-      rw (v, pending-same w p b x g z, and-yes (pending w p b 0 x g)))))
+      rw (v, pending-same w p b x g z, and-yes (pending w p b x g)))))
       (λ u. rw u)
 
-  jumps-label : (l x : ℕ) → class w x ≡ labeled → isLabel w p b 0 x ≡ true → listOf w 0 x ≡ some l
+  jumps-label : (l x : ℕ) → class w x ≡ labeled → isLabel w p b x ≡ true → listOf w x ≡ some l
       → filter (other x) (jumpsAt w p b l x) ≡ jumpsAt w p b l (suc x)
   unfolding jumpsAt
   jumps-label l x c t e =
@@ -157,17 +157,17 @@ module _ {w p b : List ℕ} where
   context-lstmt l x ctx lstmt c = record { jumps-are = c .jumps-are; over-is = c .over-is; position-is = c .position-is }
 
   -- a row of no interest: no label, no goto that waits, no declaration of this list
-  pub context-same : (l x : ℕ) (ctx : Context) → isLabel w p b 0 x ≡ false → pending w p b 0 (suc x) x ≡ false
-      → (class w x ≡ declaration → listOf w 0 x ≡ some l → ⊥) → ContextAt w p b l x ctx → ContextAt w p b l (suc x) ctx
+  pub context-same : (l x : ℕ) (ctx : Context) → isLabel w p b x ≡ false → pending w p b (suc x) x ≡ false
+      → (class w x ≡ declaration → listOf w x ≡ some l → ⊥) → ContextAt w p b l x ctx → ContextAt w p b l (suc x) ctx
   context-same l x ctx n f d c =
       context-kept w p b l x (suc x) ctx (ctx .fwd-jumps) (omega arith) (latest-same w p b l x d) (c .jumps-are ∙ sym (jumps-no w p b l x n f)) c
 
   -- a declaration of this list
-  pub context-declares : (l x : ℕ) (ctx : Context) → class w x ≡ declaration → listOf w 0 x ≡ some l → ContextAt w p b l x ctx
+  pub context-declares : (l x : ℕ) (ctx : Context) → class w x ≡ declaration → listOf w x ≡ some l → ContextAt w p b l x ctx
       → ContextAt w p b l (suc x) (record-var-decl (position w x) ctx)
   context-declares l x ctx d e c = record {
     jumps-are =
-        c .jumps-are ∙ sym (jumps-no w p b l x (other-label w p b 0 x (λ f. clash (cc))) (pending-other w p b (suc x) x (λ f. clash (cc))));
+        c .jumps-are ∙ sym (jumps-no w p b l x (other-label w p b x (λ f. clash (cc))) (pending-other w p b (suc x) x (λ f. clash (cc))));
     over-is = λ g m t.
         rw (c .jumps-are, latest-own w p b l x d e)
         (jumps-contain w p b l x g m (λ k. pending-before w p b x (suc x) g (omega arith) (t (omega arith))));
@@ -175,16 +175,16 @@ module _ {w p b : List ℕ} where
   }
 
   -- a goto that waits
-  pub context-waits : (l x : ℕ) (ctx : Context) → l < x → class w x ≡ goto → earlier w p b 0 x ≡ none → ContextAt w p b l x ctx
+  pub context-waits : (l x : ℕ) (ctx : Context) → l < x → class w x ≡ goto → earlier w p b x ≡ none → ContextAt w p b l x ctx
       → ContextAt w p b l (suc x) (with-jumps (ctx .fwd-jumps ++ x ∷ []) ctx)
   context-waits l x ctx h g e c =
       context-kept w p b l x (suc x) ctx (ctx .fwd-jumps ++ x ∷ []) (omega arith) (latest-same w p b l x (λ d i. clash (cc)))
       (ap (λ (js : List ℕ). js ++ x ∷ []) (c .jumps-are)
-      ∙ sym (jumps-yes w p b l x h (other-label w p b 0 x (λ d. clash (cc))) (pending-own w p b x g e)))
+      ∙ sym (jumps-yes w p b l x h (other-label w p b x (λ d. clash (cc))) (pending-own w p b x g e)))
       c
 
   -- a label of this list: the jumps of its name go
-  pub context-label : Body w p b → (l x : ℕ) (ctx : Context) → x < rowCount w → isLabel w p b 0 x ≡ true → listOf w 0 x ≡ some l → ContextAt w p b l x ctx
+  pub context-label : Body w p b → (l x : ℕ) (ctx : Context) → x < rowCount w → isLabel w p b x ≡ true → listOf w x ≡ some l → ContextAt w p b l x ctx
       → ContextAt w p b l (suc x) (with-lstmt (some x) (with-jumps (filter (other w p b x) (ctx .fwd-jumps)) ctx))
   context-label body l x ctx row t e c =
       let labels = label-class body x row t in

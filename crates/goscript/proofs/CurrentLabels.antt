@@ -70,7 +70,7 @@ module _ (w p b : List ℕ) where
       (λ e. top-skipped (ident w p b g) (new lstmt) blocks′ e ∙ same (ident w p b g) ∙ sym (top-skipped (ident w p b g) (new lstmt) blocks e) ∙ f g h m t)
 
   -- the label of a statement already ended, where no break names one
-  pub adds-ended : (l x t : ℕ) (blocks : List Block) → noneNamesEnded w p b ≡ true → end w l ≤ rowCount w → isLabel w p b 0 t ≡ true → t < x → end w t ≤ x
+  pub adds-ended : (l x t : ℕ) (blocks : List Block) → noneNamesEnded w p b ≡ true → end w l ≤ rowCount w → isLabel w p b t ≡ true → t < x → end w t ≤ x
       → AddsNothing w p b l x blocks (some t)
   adds-ended l x t blocks d within u h m g i n v =
       let f = ended-not-named w p b g t d (omega arith) v (omega arith) u (omega arith) in
@@ -78,16 +78,16 @@ module _ (w p b : List ℕ) where
 
   -- ---- the labels before a row, of which the innermost that passes is found
   ended-fails : (g t : ℕ) → end w t ≤ g → reaches w p b g t ≡ false
-  ended-fails g t h = case-of (around w 0 g t) (λ a. let m = around-true w 0 g t a .1 in absurd (omega arith)) (λ f. rw f)
+  ended-fails g t h = case-of (around w g t) (λ a. let m = around-true w g t a in absurd (omega arith)) (λ f. rw f)
 
-  other-fails : (g t : ℕ) → labels w p b 0 g t ≡ false → reaches w p b g t ≡ false
-  other-fails g t f = case-of (around w 0 g t) (λ a. rw (a, f)) (λ a. rw a)
+  other-fails : (g t : ℕ) → labels w p b g t ≡ false → reaches w p b g t ≡ false
+  other-fails g t f = case-of (around w g t) (λ a. rw (a, f)) (λ a. rw a)
 
-  run-fails : (g t : ℕ) → lastInRun w p b 0 t ≡ false → reaches w p b g t ≡ false
-  run-fails g t f = case-of (around w 0 g t) (λ a. rw (a, f) (case-of (labels w p b 0 g t) (λ v. rw v) (λ v. rw v))) (λ a. rw a)
+  run-fails : (g t : ℕ) → lastInRun w p b t ≡ false → reaches w p b g t ≡ false
+  run-fails g t f = case-of (around w g t) (λ a. rw (a, f) (case-of (labels w p b g t) (λ v. rw v) (λ v. rw v))) (λ a. rw a)
 
-  no-label-fails : (g t : ℕ) → isLabel w p b 0 t ≡ false → reaches w p b g t ≡ false
-  no-label-fails g t f = other-fails g t (case-of (labels w p b 0 g t) (λ v. let u = is-labels w p b 0 g t v .0 in absurd (clash (cc))) (λ v. v))
+  no-label-fails : (g t : ℕ) → isLabel w p b t ≡ false → reaches w p b g t ≡ false
+  no-label-fails g t f = other-fails g t (case-of (labels w p b g t) (λ v. let u = is-labels w p b g t v .0 in absurd (clash (cc))) (λ v. v))
 
   before-same : (x y g : ℕ) → x ≤ y → ((t : ℕ) → x ≤ t → t < y → reaches w p b g t ≡ false) → targetBefore w p b y g ≡ targetBefore w p b x g
   unfolding targetBefore
@@ -98,18 +98,18 @@ module _ {w p b : List ℕ} (body : Body w p b) {l i x : ℕ} (row : l < rowCoun
   -- the list's row, and what stands before the item
   before-item : (g t : ℕ) → x < g → l ≤ t → t < i → reaches w p b g t ≡ false
   before-item g t h m n = elim (ℕ-discrete t l) [
-    | yes e ↦ no-label-fails w p b g t (other-label w p b 0 t (λ c. let z : false ≡ true = rw (sym e, c) at holds in clash (cc)))
+    | yes e ↦ no-label-fails w p b g t (other-label w p b t (λ c. let z : false ≡ true = rw (sym e, c) at holds in clash (cc)))
     | no o ↦ ended-fails w p b g t (omega (arith, st .ended t (omega arith) n, st .upto))
   ]
 
   within : end w x ≤ end w l
   within = body .nested l x row (omega (arith, st .after, st .upto)) (st .inside)
 
-  outer : (g : ℕ) → x < g → g < end w x → labelledBreak w p b 0 g ≡ true → enclosing-target w p b (ident w p b g) blocks ≡ targetBefore w p b l g
+  outer : (g : ℕ) → x < g → g < end w x → labelledBreak w p b g ≡ true → enclosing-target w p b (ident w p b g) blocks ≡ targetBefore w p b l g
   outer g h m v = at-list .targets g (omega (arith, st .after, st .upto)) (omega (arith, within)) v
 
   -- no label but `_` stands on it
-  pub finds-unlabelled : (lstmt : Option ℕ) → ((k : ℕ) → i ≤ k → k < x → isLabel w p b 0 k ≡ false) → AddsNothing w p b l x blocks lstmt → Finds w p b x blocks lstmt
+  pub finds-unlabelled : (lstmt : Option ℕ) → ((k : ℕ) → i ≤ k → k < x → isLabel w p b k ≡ false) → AddsNothing w p b l x blocks lstmt → Finds w p b x blocks lstmt
   finds-unlabelled lstmt n a g h m v =
       a g (omega arith) (omega (arith, within)) v
       ∙ outer g h m v
@@ -117,9 +117,9 @@ module _ {w p b : List ℕ} (body : Body w p b) {l i x : ℕ} (row : l < rowCoun
       (λ t f k. elim (decLt t i) [ yes y ↦ before-item g t h f y | no o ↦ no-label-fails w p b g t (n t (omega arith) k) ]))
 
   -- the label t does, and none but `_` between
-  module _ (t : ℕ) (from : i ≤ t) (on : t < x) (is-label : isLabel w p b 0 t ≡ true) (last : (k : ℕ) → t < k → k < x → isLabel w p b 0 k ≡ false)
+  module _ (t : ℕ) (from : i ≤ t) (on : t < x) (is-label : isLabel w p b t ≡ true) (last : (k : ℕ) → t < k → k < x → isLabel w p b k ≡ false)
       (statement : class w x ≡ labeled → ⊥) where
-    t-last : lastInRun w p b 0 t ≡ true
+    t-last : lastInRun w p b t ≡ true
     t-last = last-is w p b t x (record {
       after = on;
       inside = omega (arith, st .fills t from on, body .sized .some-rows x (omega (arith, body .sized .within l row, st .inside)));
@@ -129,8 +129,8 @@ module _ {w p b : List ℕ} (body : Body w p b) {l i x : ℕ} (row : l < rowCoun
     })
 
     -- a label further out is not last in its run
-    not-last : (k : ℕ) → i ≤ k → k < t → lastInRun w p b 0 k ≡ false
-    not-last k h m = case-of (lastInRun w p b 0 k)
+    not-last : (k : ℕ) → i ≤ k → k < t → lastInRun w p b k ≡ false
+    not-last k h m = case-of (lastInRun w p b k)
         (λ v.
         let (s, r) = is-last w p b k v in
         elim (decLt s x) [
@@ -147,7 +147,7 @@ module _ {w p b : List ℕ} (body : Body w p b) {l i x : ℕ} (row : l < rowCoun
       where
         own : sameNames w p b t g ≡ true → targetBefore w p b x g ≡ some t
         own s = found-highest (reaches w p b g) x t on
-            (rw (true-around w 0 g t (omega arith) (omega (arith, st .fills t from on)), labels-is w p b 0 g t is-label s, t-last))
+            (rw (true-around w g t (omega (arith, st .fills t from on)), labels-is w p b g t is-label s, t-last))
             (λ j a n. no-label-fails w p b g j (last j a n))
 
         others : sameNames w p b t g ≡ false → targetBefore w p b x g ≡ targetBefore w p b l g
@@ -157,8 +157,8 @@ module _ {w p b : List ℕ} (body : Body w p b) {l i x : ℕ} (row : l < rowCoun
               | no o ↦ elim (decLt k t) [
                 | yes y ↦ run-fails w p b g k (not-last k (omega arith) y)
                 | no q ↦ elim (ℕ-discrete k t) [
-                  | yes e ↦ other-fails w p b g k (case-of (labels w p b 0 g k)
-                      (λ u. let z : sameNames w p b t g ≡ true = rw e at (is-labels w p b 0 g k u .1) in absurd (clash (cc)))
+                  | yes e ↦ other-fails w p b g k (case-of (labels w p b g k)
+                      (λ u. let z : sameNames w p b t g ≡ true = rw e at (is-labels w p b g k u .1) in absurd (clash (cc)))
                       (λ u. u))
                   | no z ↦ no-label-fails w p b g k (last k (omega arith) n)
                 ]
@@ -172,6 +172,6 @@ finds-below w p b x y blocks lstmt n h m e f g i j v =
     f g (omega arith) (omega arith) v
     ∙ sym (before-same w p b x y g (omega arith)
     (λ t a k. elim (ℕ-discrete t x) [
-      | yes s ↦ no-label-fails w p b g t (other-label w p b 0 t (rw s n))
+      | yes s ↦ no-label-fails w p b g t (other-label w p b t (rw s n))
       | no o ↦ ended-fails w p b g t (omega (arith, e t (omega arith) k))
     ]))

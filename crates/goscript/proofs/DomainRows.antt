@@ -21,14 +21,14 @@ fails-below : (P : ℕ → Bool) (n k : ℕ) → isSome (lowest P n) ≡ false �
 fails-below P n k f h = lowest-none P n k (is-none (lowest P n) f) h
 
 module _ (w p b : List ℕ) where
-  pub ended-not-named : (g t : ℕ) → noneNamesEnded w p b ≡ true → g < rowCount w → labelledBreak w p b 0 g ≡ true
-      → t < g → isLabel w p b 0 t ≡ true → end w t ≤ g → sameNames w p b t g ≡ false
+  pub ended-not-named : (g t : ℕ) → noneNamesEnded w p b ≡ true → g < rowCount w → labelledBreak w p b g ≡ true
+      → t < g → isLabel w p b t ≡ true → end w t ≤ g → sameNames w p b t g ≡ false
   unfolding noneNamesEnded namesEnded
   ended-not-named g t d row v h u m = case-of (sameNames w p b t g)
       (λ s.
       let z = fails-below (namesEnded w p b) (rowCount w) g (not-true (isSome (lowest (namesEnded w p b) (rowCount w))) d) row in
-      let n = fails-below (λ t. labels w p b 0 g t && leb (end w t) g) g t (rw (v, namesEnded) at z) h in
-      let y = true-and (labels w p b 0 g t) (leb (end w t) g) (labels-is w p b 0 g t u s) (le-leb (end w t) g m) in
+      let n = fails-below (λ t. labels w p b g t && leb (end w t) g) g t (rw (v, namesEnded) at z) h in
+      let y = true-and (labels w p b g t) (leb (end w t) g) (labels-is w p b g t u s) (le-leb (end w t) g m) in
       absurd (clash (cc)))
       (λ f. f)
 

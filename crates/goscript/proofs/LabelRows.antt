@@ -24,13 +24,13 @@ abbrev pub entered : List ℕ → List ℕ → List ℕ → ℕ → State → St
 entered w p b x s = resolveAll w p b x (declare w p b x s)
 
 module _ {w p b : List ℕ} (body : Body w p b) (l x : ℕ) (row : x < rowCount w) (s : State)
-    (is-label : isLabel w p b 0 x ≡ true) (listed : listOf w 0 x ≡ some l) (a : At w p b l x s) where
+    (is-label : isLabel w p b x ≡ true) (listed : listOf w x ≡ some l) (a : At w p b l x s) where
   -- ---- `declare` puts the first label of its name into the block, and no other
-  first-blocks : declared w p b 0 x ≡ some x → declare w p b x s .blocks ≡ insert x (s .blocks)
+  first-blocks : declared w p b x ≡ some x → declare w p b x s .blocks ≡ insert x (s .blocks)
   unfolding declare
   first-blocks e = rw (none-yet body x x x (s .checker) (a .checker) e (omega arith), declare)
 
-  repeated-blocks : (d : ℕ) → declared w p b 0 x ≡ some d → d < x → declare w p b x s .blocks ≡ s .blocks
+  repeated-blocks : (d : ℕ) → declared w p b x ≡ some d → d < x → declare w p b x s .blocks ≡ s .blocks
   unfolding declare
   repeated-blocks d e h = rw (found-before body x x d (s .checker) (a .checker) e h, declare)
 

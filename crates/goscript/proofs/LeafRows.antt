@@ -60,7 +60,7 @@ unfolding every lowest
 quiet-other = class-rule isQuiet isOther refl
 
 -- ---- a row that changes nothing by itself
-pub passed-row : {w p b : List ℕ} (body : Body w p b) (l x : ℕ) (s : State) → isBranch (class w x) ≡ false → isLabel w p b 0 x ≡ false
+pub passed-row : {w p b : List ℕ} (body : Body w p b) (l x : ℕ) (s : State) → isBranch (class w x) ≡ false → isLabel w p b x ≡ false
     → (class w x ≡ declaration → ⊥) → At w p b l x s → At w p b l (suc x) s
 passed-row {w} {p} {b} body l x s f n d a = record {
   checker = quiet-row body x (s .checker) f n (a .checker);
@@ -74,14 +74,14 @@ module _ (w : List ℕ) (x : ℕ) (o : isOther (class w x) ≡ true) where
 
   pub passed : {p b : List ℕ} (body : Body w p b) (l : ℕ) (s : State) → At w p b l x s → At w p b l (suc x) s
   passed {p} {b} body l s a = passed-row body l x s (or-false (isBranch (class w x)) (oneOf (labeled ∷ declaration ∷ []) (class w x)) (not-true _ o) .0)
-      (other-label w p b 0 x no-labeled) (λ e. let z : false ≡ true = rw e at o in clash (cc)) a
+      (other-label w p b x no-labeled) (λ e. let z : false ≡ true = rw e at o in clash (cc)) a
 
 -- ---- what a statement leaves
 
 -- the current label after the statement x: as before or, in stock, that of a statement in x, where x is a label
 pub data Leaves (build : Build) (w p b : List ℕ) (x : ℕ) (s s′ : State) : Type 0 where
   kept : s′ .ctx .lstmt ≡ s .ctx .lstmt → Leaves build w p b x s s′
-  left : class w x ≡ labeled → build .A ≡ original → (t : ℕ) → s′ .ctx .lstmt ≡ some t → isLabel w p b 0 t ≡ true → t < rowCount w → end w t ≤ end w x
+  left : class w x ≡ labeled → build .A ≡ original → (t : ℕ) → s′ .ctx .lstmt ≡ some t → isLabel w p b t ≡ true → t < rowCount w → end w t ≤ end w x
       → Leaves build w p b x s s′
 
 pub record Walked (build : Build) (w p b : List ℕ) (l x : ℕ) (s s′ : State) : Type 0 where
@@ -92,7 +92,7 @@ pub record Walked (build : Build) (w p b : List ℕ) (l x : ℕ) (s s′ : State
 module _ (build : Build) {w p b : List ℕ} (body : Body w p b) (l x : ℕ) (row : x < rowCount w) (s : State) where
   -- a row without rows below, where neither the blocks nor the current label change
   leaf : (s′ : State) → holding (class w x) ≡ nothing → s′ .blocks ≡ s .blocks → s′ .ctx .lstmt ≡ s .ctx .lstmt
-      → CheckerAt w p b (suc x) (s′ .checker) → ContextAt w p b l (suc x) (s′ .ctx) → At w p b l x s → isLabel w p b 0 x ≡ false → Walked build w p b l x s s′
+      → CheckerAt w p b (suc x) (s′ .checker) → ContextAt w p b l (suc x) (s′ .ctx) → At w p b l x s → isLabel w p b x ≡ false → Walked build w p b l x s s′
   leaf s′ h e i c k a n =
       let one : end w x ≡ suc x = omega (arith, body .leaf x row h) in
       record {
@@ -107,23 +107,23 @@ module _ (build : Build) {w p b : List ℕ} (body : Body w p b) (l x : ℕ) (row
       let o = quiet-other (class w x) t in
       let z = passed w x o body l s a in
       let h : holding (class w x) ≡ nothing = by-one _ (plain ∷ empty ∷ stop ∷ []) (class w x) t (λ e. rw e) (λ e. rw e) (λ e. rw e) in
-      rw (at-quiet build w p b f x s t) (leaf s h refl refl (z .checker) (z .ctx) a (other-label w p b 0 x (no-labeled w x o)))
+      rw (at-quiet build w p b f x s t) (leaf s h refl refl (z .checker) (z .ctx) a (other-label w p b x (no-labeled w x o)))
 
-  pub declaration-walked : (f : ℕ) → class w x ≡ declaration → listOf w 0 x ≡ some l → At w p b l x s
+  pub declaration-walked : (f : ℕ) → class w x ≡ declaration → listOf w x ≡ some l → At w p b l x s
       → Walked build w p b l x s (stmt-branches build w p b (suc f) x s)
   declaration-walked f e i a =
-      let n = other-label w p b 0 x (λ c. clash (cc)) in
+      let n = other-label w p b x (λ c. clash (cc)) in
       rw (at-declaration build w p b f x s e)
       (leaf (in-ctx (record-var-decl (position w x)) s) (rw e) refl refl
       (quiet-row body x (s .checker) (rw e) n (a .checker)) (context-declares l x (s .ctx) e i (a .ctx)) a n)
 
   -- ---- branches
   module _ (t : isBranch (class w x) ≡ true) (h : holding (class w x) ≡ nothing) (d : class w x ≡ declaration → ⊥) (a : At w p b l x s) where
-    no-label : isLabel w p b 0 x ≡ false
-    no-label = branch-label w p b 0 x t
+    no-label : isLabel w p b x ≡ false
+    no-label = branch-label w p b x t
 
     -- the checker alone changes, and no goto waits
-    branch-walked : (s′ : State) → s′ .blocks ≡ s .blocks → s′ .ctx ≡ s .ctx → pending w p b 0 (suc x) x ≡ false → CheckerAt w p b (suc x) (s′ .checker)
+    branch-walked : (s′ : State) → s′ .blocks ≡ s .blocks → s′ .ctx ≡ s .ctx → pending w p b (suc x) x ≡ false → CheckerAt w p b (suc x) (s′ .checker)
         → Walked build w p b l x s s′
     branch-walked s′ e i f c = leaf s′ h e (ap (λ (k : Context). k .lstmt) i) c (rw i (context-same l x (s .ctx) no-label f (λ e i. d e) (a .ctx))) a no-label
 
@@ -144,16 +144,16 @@ module _ (build : Build) {w p b : List ℕ} (body : Body w p b) (l x : ℕ) (row
   pub goto-walked : (f : ℕ) → class w x ≡ goto → l < x → x < end w l → At w p b l x s → Walked build w p b l x s (stmt-branches build w p b (suc f) x s)
   goto-walked f e h m a =
       rw (at-goto build w p b f x s e, has-label w p b x s (gotoBranch w p b x s) (λ z. omega (arith, goto-named body x row e)))
-      (case-found (earlier w p b 0 x) bound waits)
+      (case-found (earlier w p b x) bound waits)
     where
-      sees : goto-target w p b (ident w p b x) (s .blocks) ≡ earlier w p b 0 x
+      sees : goto-target w p b (ident w p b x) (s .blocks) ≡ earlier w p b x
       sees = a .blocks .gotos x h (omega arith) m ∙ visible-earlier w p b x
 
-      bound : (t : ℕ) → earlier w p b 0 x ≡ some t → Walked build w p b l x s (gotoBranch w p b x s)
+      bound : (t : ℕ) → earlier w p b x ≡ some t → Walked build w p b l x s (gotoBranch w p b x s)
       bound t i = rw (goto-used w p b x s t (sees ∙ i)) (branch-walked (rw e) (rw e) (λ c. clash (cc)) a (recordLabelUse w p b x s)
           (uses-blocks w p b x s) (uses-ctx w p b x s) (pending-earlier w p b (suc x) x t i) (goto-bound body x row e s t i (a .checker)))
 
-      waits : earlier w p b 0 x ≡ none → Walked build w p b l x s (gotoBranch w p b x s)
+      waits : earlier w p b x ≡ none → Walked build w p b l x s (gotoBranch w p b x s)
       waits i = rw (goto-pushed w p b x s (sees ∙ i)) (leaf (in-ctx (with-jumps (s .ctx .fwd-jumps ++ x ∷ [])) s) (rw e) refl refl
           (goto-waits body x row e (s .checker) i (a .checker)) (context-waits l x (s .ctx) h e i (a .ctx)) a (no-label (rw e) (rw e) (λ c. clash (cc)) a))
 
@@ -161,20 +161,20 @@ module _ (build : Build) {w p b : List ℕ} (body : Body w p b) (l x : ℕ) (row
   module _ (k : Class) (kinds : Class → Bool) (e : class w x ≡ k) (breaks : oneOf (break ∷ continue ∷ []) k ≡ true) (same : (c : Class) → needs k c ≡ kinds c)
       (t : isBranch (class w x) ≡ true) (h : holding (class w x) ≡ nothing) (d : class w x ≡ declaration → ⊥) (n : class w x ≡ goto → ⊥)
       {i : ℕ} (in-rows : l < rowCount w) (lists : isList (class w l) ≡ true) (st : Stacked w l i x) (a : At w p b l x s) where
-    its-target : 0 < name w x → enclosing-target w p b (ident w p b x) (s .blocks) ≡ target w p b 0 x
+    its-target : 0 < name w x → enclosing-target w p b (ident w p b x) (s .blocks) ≡ target w p b x
     its-target z =
-        a .blocks .targets x (omega (arith, st .after, st .upto)) (st .inside) (labelled-is w p b 0 x (record { from = omega arith; breaks = rw e breaks; has-name = z }))
+        a .blocks .targets x (omega (arith, st .after, st .upto)) (st .inside) (labelled-is w p b x (record { breaks = rw e breaks; has-name = z }))
         ∙ sym (target-is body in-rows lists st)
 
-    valid-same : 0 < name w x → valid w kinds (enclosing-target w p b (ident w p b x) (s .blocks)) ≡ validTarget w p b 0 x
-    valid-same z = ap (valid w kinds) (its-target z) ∙ case-found (target w p b 0 x)
-        (λ g f. rw f (sym (valid-found w p b 0 x g f ∙ ap (λ (c : Class). needs c (class w (suc g))) e ∙ same (class w (suc g)))))
-        (λ f. rw f (sym (valid-none w p b 0 x f)))
+    valid-same : 0 < name w x → valid w kinds (enclosing-target w p b (ident w p b x) (s .blocks)) ≡ validTarget w p b x
+    valid-same z = ap (valid w kinds) (its-target z) ∙ case-found (target w p b x)
+        (λ g f. rw f (sym (valid-found w p b x g f ∙ ap (λ (c : Class). needs c (class w (suc g))) e ∙ same (class w (suc g)))))
+        (λ f. rw f (sym (valid-none w p b x f)))
 
     break-walked : Walked build w p b l x s (labelled w x (labelledBreak w p b kinds (breakCode k) x s) s)
     break-walked = elim (ℕ-discrete (name w x) 0) [
       | yes z ↦ unlabelled-walked t h d a _ n z
-      | no o ↦ rw (has-label w p b x s (labelledBreak w p b kinds (breakCode k) x s) o) (case-of (validTarget w p b 0 x)
+      | no o ↦ rw (has-label w p b x s (labelledBreak w p b kinds (breakCode k) x s) o) (case-of (validTarget w p b x)
           (λ v. rw (break-used w p b x s kinds (breakCode k) (valid-same (omega arith) ∙ v)) (branch-walked t h d a (recordLabelUse w p b x s)
           (uses-blocks w p b x s) (uses-ctx w p b x s) (pending-other w p b (suc x) x n)
           (break-valid body x row k e breaks (omega arith) s v (a .checker))))

@@ -28,8 +28,8 @@ isPart = oneOf (block ∷ caseBlock ∷ commBlock ∷ if ∷ ifElse ∷ [])
 module _ (w p b : List ℕ) where
   -- the labels on the statement x of the item i: none but `_`, or the last other is the current one
   pub data OnItem (l i x : ℕ) (s : State) : Type 0 where
-    bare : ((k : ℕ) → i ≤ k → k < x → isLabel w p b 0 k ≡ false) → AddsNothing w p b l x (s .blocks) (s .ctx .lstmt) → OnItem l i x s
-    under : (t : ℕ) → i ≤ t → t < x → isLabel w p b 0 t ≡ true → ((k : ℕ) → t < k → k < x → isLabel w p b 0 k ≡ false) → s .ctx .lstmt ≡ some t → OnItem l i x s
+    bare : ((k : ℕ) → i ≤ k → k < x → isLabel w p b k ≡ false) → AddsNothing w p b l x (s .blocks) (s .ctx .lstmt) → OnItem l i x s
+    under : (t : ℕ) → i ≤ t → t < x → isLabel w p b t ≡ true → ((k : ℕ) → t < k → k < x → isLabel w p b k ≡ false) → s .ctx .lstmt ≡ some t → OnItem l i x s
 
   pub record InItem (l i x : ℕ) (s : State) : Type 0 where
     pub stacked : Stacked w l i x
@@ -69,7 +69,7 @@ module _ {w p b : List ℕ} (body : Body w p b) {l x : ℕ} {s : State} (home : 
     pub home-list : isStatement (class w x) ≡ true → isList (class w l) ≡ true
     home-list t = statement-home (class w l) (class w i) (n .holds) (head-statement t) (n .fit)
 
-    pub its-list : isStatement (class w x) ≡ true → listOf w 0 x ≡ some l
+    pub its-list : isStatement (class w x) ≡ true → listOf w x ≡ some l
     its-list t = in-the-list (n .stacked) (home-list t)
 
     -- what is no statement has no label on it

@@ -19,19 +19,19 @@ module _ (w p b : List ℕ) where
   unfolding ident sameName
   same-ident r s = refl
 
-  labels-same : (g h r : ℕ) → sameNames w p b g h ≡ true → labels w p b 0 g r ≡ labels w p b 0 h r
+  labels-same : (g h r : ℕ) → sameNames w p b g h ≡ true → labels w p b g r ≡ labels w p b h r
   unfolding labels sameName
   labels-same g h r t = rw (same-bytes p b (name w g) (name w h) t, labels, sameName)
 
-  pub declared-same : (g h : ℕ) → sameNames w p b g h ≡ true → declared w p b 0 g ≡ declared w p b 0 h
-  declared-same g h t = case-found (declared w p b 0 h)
+  pub declared-same : (g h : ℕ) → sameNames w p b g h ≡ true → declared w p b g ≡ declared w p b h
+  declared-same g h t = case-found (declared w p b h)
       (λ d e.
-      let (m, u) = is-declared w p b 0 h d e in
-      declared-is w p b 0 g d m (labels-same g h d t ∙ u) (λ r l. labels-same g h r t ∙ declared-first w p b 0 h d r e l) ∙ sym e)
-      (λ e. none-declared w p b 0 g (λ r l. labels-same g h r t ∙ declared-none w p b 0 h r e l) ∙ sym e)
+      let (m, u) = is-declared w p b h d e in
+      declared-is w p b g d m (labels-same g h d t ∙ u) (λ r l. labels-same g h r t ∙ declared-first w p b h d r e l) ∙ sym e)
+      (λ e. none-declared w p b g (λ r l. labels-same g h r t ∙ declared-none w p b h r e l) ∙ sym e)
 
   -- the declared label of a name is that of its own
-  pub declared-own : (g d : ℕ) → declared w p b 0 g ≡ some d → declared w p b 0 d ≡ some d
+  pub declared-own : (g d : ℕ) → declared w p b g ≡ some d → declared w p b d ≡ some d
   declared-own g d e =
-      let (m, u) = is-declared w p b 0 g d e in
-      declared-same d g (is-labels w p b 0 g d u .1) ∙ e
+      let (m, u) = is-declared w p b g d e in
+      declared-same d g (is-labels w p b g d u .1) ∙ e

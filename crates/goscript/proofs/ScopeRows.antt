@@ -21,7 +21,6 @@ use Rattle.rules.proofs.Order.{before-not-after, rank-above, rank-within, rank-
 use Rattle.rules.proofs.LabelRows.{is-labels, is-declared}
 use Rattle.rules.proofs.RowNames.{name-within}
 use Rattle.rules.proofs.RankRows.{label-named, declared-rank, label-at}
-use Rattle.tables.proofs.Labelling.{body-end}
 use Rattle.goscript.specs.Syntax.{ident, lookup}
 use Rattle.goscript.specs.Checker.{Checker, place}
 use Rattle.goscript.proofs.SameNames.{same-ident, declared-same, declared-own}
@@ -113,25 +112,25 @@ module _ (w p b bytes : List ℕ) where
 -- ---- the label of a canonical number, where it stands before row x
 module _ (w p b : List ℕ) where
   abbrev pub ofNumber : ℕ → ℕ → List ℕ
-  ofNumber x i = elim (declaredAt w p b 0 (suc i)) [ none ↦ [] | some d ↦ only (ltb d x) d ]
+  ofNumber x i = elim (declaredAt w p b (suc i)) [ none ↦ [] | some d ↦ only (ltb d x) d ]
 
-  pub number-none : (x i : ℕ) → declaredAt w p b 0 (suc i) ≡ none → ofNumber x i ≡ []
+  pub number-none : (x i : ℕ) → declaredAt w p b (suc i) ≡ none → ofNumber x i ≡ []
   number-none x i e = rw (e, ofNumber)
 
-  pub number-before : (x i d : ℕ) → declaredAt w p b 0 (suc i) ≡ some d → d < x → ofNumber x i ≡ d ∷ []
+  pub number-before : (x i d : ℕ) → declaredAt w p b (suc i) ≡ some d → d < x → ofNumber x i ≡ d ∷ []
   number-before x i d e h = rw (e, lt-ltb d x h, ofNumber)
 
-  number-from : (x i d : ℕ) → declaredAt w p b 0 (suc i) ≡ some d → x ≤ d → ofNumber x i ≡ []
+  number-from : (x i d : ℕ) → declaredAt w p b (suc i) ≡ some d → x ≤ d → ofNumber x i ≡ []
   number-from x i d e h = rw (e, le-ltb d x h, ofNumber)
 
   -- by what it holds
-  by-number : {G : Type 0} (x i : ℕ) → (ofNumber x i ≡ [] → G) → ((d : ℕ) → declaredAt w p b 0 (suc i) ≡ some d → d < x → ofNumber x i ≡ d ∷ [] → G) → G
-  by-number x i f g = case-found (declaredAt w p b 0 (suc i))
+  by-number : {G : Type 0} (x i : ℕ) → (ofNumber x i ≡ [] → G) → ((d : ℕ) → declaredAt w p b (suc i) ≡ some d → d < x → ofNumber x i ≡ d ∷ [] → G) → G
+  by-number x i f g = case-found (declaredAt w p b (suc i))
       (λ d e. elim (decLt d x) [ yes h ↦ g d e h (number-before x i d e h) | no n ↦ f (number-from x i d e (omega arith)) ])
       (λ e. f (number-none x i e))
 
-  number-same : (x i : ℕ) → (declaredAt w p b 0 (suc i) ≡ some x → ⊥) → ofNumber (suc x) i ≡ ofNumber x i
-  number-same x i n = case-found (declaredAt w p b 0 (suc i))
+  number-same : (x i : ℕ) → (declaredAt w p b (suc i) ≡ some x → ⊥) → ofNumber (suc x) i ≡ ofNumber x i
+  number-same x i n = case-found (declaredAt w p b (suc i))
       (λ d e. elim (decLt d x) [
         | yes h ↦ number-before (suc x) i d e (omega arith) ∙ sym (number-before x i d e h)
         | no m ↦ elim (ℕ-discrete d x) [
@@ -143,8 +142,8 @@ module _ (w p b : List ℕ) where
 
 module _ {w p b : List ℕ} (body : Body w p b) where
   -- ---- the rank of a declared label
-  has-number : (d : ℕ) → d < rowCount w → isLabel w p b 0 d ≡ true → declared w p b 0 d ≡ some d
-      → (k : ℕ) × (k < pairCount p) × (declaredAt w p b 0 (suc k) ≡ some d)
+  has-number : (d : ℕ) → d < rowCount w → isLabel w p b d ≡ true → declared w p b d ≡ some d
+      → (k : ℕ) × (k < pairCount p) × (declaredAt w p b (suc k) ≡ some d)
   has-number d row t e =
       let z = label-named body d row t in
       let a = rank-above p b (name w d) in
@@ -152,7 +151,7 @@ module _ {w p b : List ℕ} (body : Body w p b) where
       (rank p b (name w d) - 1, omega (arith, rank-within p b (name w d) z (name-within body d row)), rw i (declared-rank body d row z ∙ e))
 
   -- their names stand in the order of their numbers
-  in-order : (i k d e : ℕ) → declaredAt w p b 0 (suc i) ≡ some d → declaredAt w p b 0 (suc k) ≡ some e → i < k
+  in-order : (i k d e : ℕ) → declaredAt w p b (suc i) ≡ some d → declaredAt w p b (suc k) ≡ some e → i < k
       → bytesBefore (ident w p b d) (ident w p b e) ≡ true
   unfolding ident
   in-order i k d e y z h = rank-before p b (name w d) (name w e) (omega (arith, label-at body (suc i) d y .3, label-at body (suc k) e z .3))
@@ -162,12 +161,12 @@ module _ {w p b : List ℕ} (body : Body w p b) where
   unfolding allAt
   all-zero = none-each (ofNumber w p b 0) (pairCount p) (λ i h. by-number w p b 0 i (λ e. e) (λ d e l q. absurd (omega arith)))
 
-  pub all-same : (x : ℕ) → (isLabel w p b 0 x ≡ true → declared w p b 0 x ≡ some x → ⊥) → allAt w p b (suc x) ≡ allAt w p b x
+  pub all-same : (x : ℕ) → (isLabel w p b x ≡ true → declared w p b x ≡ some x → ⊥) → allAt w p b (suc x) ≡ allAt w p b x
   unfolding allAt
   all-same x n = each-same (ofNumber w p b (suc x)) (ofNumber w p b x) (pairCount p)
       (λ i h. number-same w p b x i (λ e. let (row, t, own, r) = label-at body (suc i) x e in n t own))
 
-  pub all-placed : (x : ℕ) → x < rowCount w → isLabel w p b 0 x ≡ true → declared w p b 0 x ≡ some x → place w p b x (allAt w p b x) ≡ allAt w p b (suc x)
+  pub all-placed : (x : ℕ) → x < rowCount w → isLabel w p b x ≡ true → declared w p b x ≡ some x → place w p b x (allAt w p b x) ≡ allAt w p b (suc x)
   unfolding allAt
   all-placed x row t own =
       let (k, within, at) = has-number x row t own in
@@ -183,43 +182,42 @@ module _ {w p b : List ℕ} (body : Body w p b) where
       (pairCount p) within
 
   -- what a number's label answers for the name of g
-  number-found : (x g i d : ℕ) → lookup w p b (ident w p b g) (ofNumber w p b x i) ≡ some d → (declared w p b 0 g ≡ some d) × (d < x)
+  number-found : (x g i d : ℕ) → lookup w p b (ident w p b g) (ofNumber w p b x i) ≡ some d → (declared w p b g ≡ some d) × (d < x)
   unfolding lookup
   number-found x g i d q = by-number w p b x i
       (λ e. let z : none ≡ some d = rw e at q in absurd (clash (cc)))
       (λ k e l f.
       let (j, t) = one-lookup w p b (ident w p b g) k d (rw f at q) in
-      let own : declared w p b 0 g ≡ some k = sym (declared-same w p b k g (sym (same-ident w p b k g) ∙ t)) ∙ label-at body (suc i) k e .2 in
+      let own : declared w p b g ≡ some k = sym (declared-same w p b k g (sym (same-ident w p b k g) ∙ t)) ∙ label-at body (suc i) k e .2 in
       (own ∙ ap some j, omega arith))
 
-  found-number : (x g d : ℕ) → declared w p b 0 g ≡ some d → d < x → (i : ℕ) × (i < pairCount p) × (lookup w p b (ident w p b g) (ofNumber w p b x i) ≡ some d)
+  found-number : (x g d : ℕ) → declared w p b g ≡ some d → d < x → (i : ℕ) × (i < pairCount p) × (lookup w p b (ident w p b g) (ofNumber w p b x i) ≡ some d)
   found-number x g d e l =
-      let all-rows = body-end body in
-      let i = is-declared w p b 0 g d e in
-      let (t, s) = is-labels w p b 0 g d (i .1) in
+      let i = is-declared w p b g d e in
+      let (t, s) = is-labels w p b g d (i .1) in
       let (k, h, at) = has-number d (omega (arith, i .0)) t (declared-own w p b g d e) in
       (k, h, rw (number-before w p b x k d at l) (lookup-one w p b (ident w p b g) d (same-ident w p b d g ∙ s)))
 
-  pub lookup-all : (x g : ℕ) → lookup w p b (ident w p b g) (allAt w p b x) ≡ before x (declared w p b 0 g)
+  pub lookup-all : (x g : ℕ) → lookup w p b (ident w p b g) (allAt w p b x) ≡ before x (declared w p b g)
   unfolding allAt
   lookup-all x g = case-found (lookup w p b (ident w p b g) (each (ofNumber w p b x) (pairCount p)))
       (λ d e.
       let (i, h, q) = lookup-in w p b (ident w p b g) (ofNumber w p b x) (pairCount p) d e in
       let (f, l) = number-found x g i d q in
-      e ∙ sym (before-is x d (declared w p b 0 g) f l))
-      (λ e. case-found (declared w p b 0 g)
+      e ∙ sym (before-is x d (declared w p b g) f l))
+      (λ e. case-found (declared w p b g)
       (λ d f. elim (decLt d x) [
         | yes l ↦
             let (i, h, q) = found-number x g d f l in
             absurd (clash (cc (lookup-none w p b (ident w p b g) (ofNumber w p b x) (pairCount p) i e h)))
-        | no n ↦ e ∙ sym (before-not x d (declared w p b 0 g) f (omega arith))
+        | no n ↦ e ∙ sym (before-not x d (declared w p b g) f (omega arith))
       ])
       (λ f. e ∙ rw f))
 
   -- in the checker at row x: the declared label of the name of g where it stands before x, and none yet where it doesn't
-  module _ (x g d : ℕ) (c : Checker) (at : CheckerAt w p b x c) (e : declared w p b 0 g ≡ some d) where
+  module _ (x g d : ℕ) (c : Checker) (at : CheckerAt w p b x c) (e : declared w p b g ≡ some d) where
     pub found-before : d < x → lookup w p b (ident w p b g) (c .all) ≡ some d
-    found-before h = rw (at .all-are) (lookup-all x g ∙ before-is x d (declared w p b 0 g) e h)
+    found-before h = rw (at .all-are) (lookup-all x g ∙ before-is x d (declared w p b g) e h)
 
     pub none-yet : x ≤ d → lookup w p b (ident w p b g) (c .all) ≡ none
-    none-yet h = rw (at .all-are) (lookup-all x g ∙ before-not x d (declared w p b 0 g) e h)
+    none-yet h = rw (at .all-are) (lookup-all x g ∙ before-not x d (declared w p b g) e h)

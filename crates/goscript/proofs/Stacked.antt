@@ -57,14 +57,14 @@ module _ {w : List ℕ} {l i x : ℕ} (st : Stacked w l i x) where
     | no n ↦ st .labels-on q (omega arith) a
   ]
 
-  no-other : (P : Class → Bool) → P labeled ≡ false → (q : ℕ) → l < q → Innermost w 0 P x q → ⊥
+  no-other : (P : Class → Bool) → P labeled ≡ false → (q : ℕ) → l < q → Innermost w P x q → ⊥
   no-other P n q h j =
       let z : P labeled ≡ true = rw (around-labeled q h (j .before) (j .reaches)) at (j .passes) in
       clash (cc)
 
-  pub in-the-list : isList (class w l) ≡ true → listOf w 0 x ≡ some l
+  pub in-the-list : isList (class w l) ≡ true → listOf w x ≡ some l
   unfolding listOf
-  in-the-list t = found-innermost w 0 isList x l (record { before = omega (arith, st .after, st .upto); from = omega arith; reaches = st .inside; passes = t })
+  in-the-list t = found-innermost w isList x l (record { before = omega (arith, st .after, st .upto); reaches = st .inside; passes = t })
       (no-other isList refl)
 
 -- ---- the target
@@ -88,13 +88,13 @@ and-none false b c d e = refl
 
 -- the statement of the label t is around g, of its name, and t is last in its run: what `targetBefore` asks
 abbrev pub reaches : List ℕ → List ℕ → List ℕ → ℕ → ℕ → Bool
-reaches w p b g t = around w 0 g t && (labels w p b 0 g t && lastInRun w p b 0 t)
+reaches w p b g t = around w g t && (labels w p b g t && lastInRun w p b t)
 
 -- the innermost Block around g: the list's own row, or the Block whose clause that is; no label stands between
 record Home (w p b : List ℕ) (l g k : ℕ) : Type 0 where
-  block : innermost w 0 isBlock g ≡ some k
+  block : innermost w isBlock g ≡ some k
   upto : k ≤ l
-  none-between : (t : ℕ) → k ≤ t → t < l → g < end w t → isLabel w p b 0 t ≡ false
+  none-between : (t : ℕ) → k ≤ t → t < l → g < end w t → isLabel w p b t ≡ false
 
 module _ {w p b : List ℕ} (body : Body w p b) {l i g : ℕ} (row : l < rowCount w) (lists : isList (class w l) ≡ true) (st : Stacked w l i g) where
   home : (k : ℕ) × Home w p b l g k
@@ -104,7 +104,7 @@ module _ {w p b : List ℕ} (body : Body w p b) {l i g : ℕ} (row : l < rowCoun
       own t = (
         l,
         record {
-          block = found-innermost w 0 isBlock g l (record { before = omega (arith, st .after, st .upto); from = omega arith; reaches = st .inside; passes = t })
+          block = found-innermost w isBlock g l (record { before = omega (arith, st .after, st .upto); reaches = st .inside; passes = t })
               (no-other st isBlock refl);
           upto = omega arith;
           none-between = λ t h m n. absurd (omega arith);
@@ -126,7 +126,7 @@ module _ {w p b : List ℕ} (body : Body w p b) {l i g : ℕ} (row : l < rowCoun
           let ends : (q : ℕ) → r < q → q < l → end w q ≤ l = λ q a m. ends-before (body .sized) (body .child-within) (body .sized .within r in-rows) c q a m in (
             r,
             record {
-              block = found-innermost w 0 isBlock g r (record { before = omega (arith, st .after, st .upto); from = omega arith; reaches = reach; passes = t })
+              block = found-innermost w isBlock g r (record { before = omega (arith, st .after, st .upto); reaches = reach; passes = t })
                   (λ q a j. elim (decLt q l) [
                     | yes m ↦ omega (arith, ends q a m, j .reaches, st .after, st .upto)
                     | no m ↦ elim (ℕ-discrete q l) [
@@ -136,39 +136,39 @@ module _ {w p b : List ℕ} (body : Body w p b) {l i g : ℕ} (row : l < rowCoun
                   ]);
               upto = omega arith;
               none-between = λ q a m n. elim (ℕ-discrete q r) [
-                | yes y ↦ other-label w p b 0 q (λ c. let z : isBlock (class w q) ≡ true = rw y t in let v : false ≡ true = rw c at z in clash (cc))
+                | yes y ↦ other-label w p b q (λ c. let z : isBlock (class w q) ≡ true = rw y t in let v : false ≡ true = rw c at z in clash (cc))
                 | no o ↦ absurd (omega (arith, ends q (omega arith) m, st .after, st .upto))
               ];
             },
           )
 
-  inside-block : (k t : ℕ) → Home w p b l g k → inBlockOf w p b 0 t g ≡ ltb t k
+  inside-block : (k t : ℕ) → Home w p b l g k → inBlockOf w p b t g ≡ ltb t k
   unfolding inBlockOf
   inside-block k t x = rw (x .block, inBlockOf)
 
-  pub target-is : target w p b 0 g ≡ targetBefore w p b l g
+  pub target-is : target w p b g ≡ targetBefore w p b l g
   unfolding target targetBefore
   target-is =
       let (k, x) = home in
       highest-cut wanted (reaches w p b g) l g (omega (arith, st .after, st .upto)) (inner k x) (outside k x)
     where
       wanted : ℕ → Bool
-      wanted t = around w 0 g t && (labels w p b 0 g t && (lastInRun w p b 0 t && inBlockOf w p b 0 t g))
+      wanted t = around w g t && (labels w p b g t && (lastInRun w p b t && inBlockOf w p b t g))
 
       inner : (k : ℕ) → Home w p b l g k → (t : ℕ) → t < l → wanted t ≡ reaches w p b g t
-      inner k x t h = case-of (around w 0 g t && labels w p b 0 g t)
+      inner k x t h = case-of (around w g t && labels w p b g t)
           (λ v.
-          let a = and-true (around w 0 g t) (labels w p b 0 g t) v in
-          let n = is-labels w p b 0 g t (a .1) .0 in
+          let a = and-true (around w g t) (labels w p b g t) v in
+          let n = is-labels w p b g t (a .1) .0 in
           let m : t < k = elim (decLt t k) [
             | yes y ↦ y
-            | no o ↦ let z = x .none-between t (omega arith) h (around-true w 0 g t (a .0) .1) in absurd (clash (cc))
+            | no o ↦ let z = x .none-between t (omega arith) h (around-true w g t (a .0)) in absurd (clash (cc))
           ] in
-          rw (a .0, a .1) (and-last (lastInRun w p b 0 t) (inBlockOf w p b 0 t g) (inside-block k t x ∙ lt-ltb t k m)))
-          (λ v. and-first (around w 0 g t) (labels w p b 0 g t) (lastInRun w p b 0 t && inBlockOf w p b 0 t g) v
-          ∙ sym (and-first (around w 0 g t) (labels w p b 0 g t) (lastInRun w p b 0 t) v))
+          rw (a .0, a .1) (and-last (lastInRun w p b t) (inBlockOf w p b t g) (inside-block k t x ∙ lt-ltb t k m)))
+          (λ v. and-first (around w g t) (labels w p b g t) (lastInRun w p b t && inBlockOf w p b t g) v
+          ∙ sym (and-first (around w g t) (labels w p b g t) (lastInRun w p b t) v))
 
       outside : (k : ℕ) → Home w p b l g k → (t : ℕ) → l ≤ t → t < g → wanted t ≡ false
       outside k x t h m =
           let z = inside-block k t x ∙ le-ltb t k (omega (arith, x .upto)) in
-          and-none (around w 0 g t) (labels w p b 0 g t) (lastInRun w p b 0 t) (inBlockOf w p b 0 t g) z
+          and-none (around w g t) (labels w p b g t) (lastInRun w p b t) (inBlockOf w p b t g) z

@@ -219,7 +219,7 @@ module _ {build : Build} {w p b : List ℕ} (body : Body w p b) (s : ℕ) (row :
 
   -- in the Block of s: those that refer to s
   pub block-breaks : (f : ℕ) → isBreakable (class w s) ≡ true → 2 * size w s ≤ suc (suc (suc f))
-      → foundIn (suc f) (list w (suc s)) true ≡ hasBreak w p b 0 s
+      → foundIn (suc f) (list w (suc s)) true ≡ hasBreak w p b s
   unfolding every lowest
   block-breaks f t x =
       let n = body .sized .some-rows s row in

@@ -33,7 +33,7 @@ use Rattle.goscript.proofs.VerdictSearch.{labelOf}
 -- of the items from c on, before e, the last that is no Empty is found, or there is none
 abbrev LastOf : List ℕ → ℕ → ℕ → Option ℕ → Type 0
 LastOf w c e (some s) = Last w c e s
-LastOf w c e none = onlyEmpty w 0 c e ≡ true
+LastOf w c e none = onlyEmpty w c e ≡ true
 
 -- f calls are enough to answer for a statement as `rules` does
 abbrev pub Answered : Build → List ℕ → List ℕ → List ℕ → ℕ → Type 0
@@ -50,20 +50,20 @@ module _ {w p b : List ℕ} (body : Body w p b) (q : ℕ) (h : q < rowCount w) w
 
     found-here : findLast (nonEmpty w) l ≡ none → LastOf w c (end w q) (findLast (nonEmpty w) (c ∷ l))
     found-here f =
-        let k : onlyEmpty w 0 (end w c) (end w q) ≡ true = rw f at rest in
+        let k : onlyEmpty w (end w c) (end w q) ≡ true = rw f at rest in
         case-of (nonEmpty w c)
         (λ t. rw (last-here (nonEmpty w) c l f t) (record { item = here m; no-empty = λ e. clash (cc); rest = k }))
         (λ t.
         let e = is-one (class w c) empty (not-false (isClass w empty c) t) in
         let n = one-row-empties body c (omega (arith, body .sized .within q h)) e in
-        rw (last-passed (nonEmpty w) c l f t) (all-empty w 0 c (end w q) (λ r i j. elim (ℕ-discrete r c) [
+        rw (last-passed (nonEmpty w) c l f t) (all-empty w c (end w q) (λ r i j. elim (ℕ-discrete r c) [
           | yes z ↦ rw z e
-          | no z ↦ only-empty w 0 (end w c) (end w q) k r (omega arith) j
+          | no z ↦ only-empty w (end w c) (end w q) k r (omega arith) j
         ])))
 
   last-of : LastOf w (suc q) (end w q) (findLast (nonEmpty w) (list w q))
   last-of = of-list body q h (λ c l. LastOf w c (end w q) (findLast (nonEmpty w) l))
-      (rw (last-none (nonEmpty w)) (all-empty w 0 (end w q) (end w q) (λ r i j. absurd (omega arith))))
+      (rw (last-none (nonEmpty w)) (all-empty w (end w q) (end w q) (λ r i j. absurd (omega arith))))
       (λ c l a m i rest. case-found (findLast (nonEmpty w) l) (found-later c l m rest) (found-here c l m rest))
 
   -- the list of a row that holds one

@@ -10,5 +10,5 @@ use Rattle.goscript.specs.Build.{mendedBuild}
 use Rattle.goscript.specs.Returns.{verdict}
 use Rattle.goscript.proofs.VerdictRules.{same-verdict}
 
-pub mended-verdict : {w p b : List ℕ} → Body w p b → verdict mendedBuild w p b ≡ verdictOf w p b 0
+pub mended-verdict : {w p b : List ℕ} → Body w p b → verdict mendedBuild w p b ≡ verdictOf w p b
 mended-verdict body = same-verdict body (λ s row t. record { label = λ r l m e. refl; implicit = λ l i. refl })

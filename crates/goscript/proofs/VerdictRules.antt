@@ -55,11 +55,11 @@ module _ {build : Build} {w p b : List ℕ} (body : Body w p b)
 
     never-rule : isNever (class w s) ≡ true → Answer
     unfolding isTerminating
-    never-rule t = statement-never build w p b (suc (suc f)) s label t ∙ sym (terminating-never w p b 0 (suc (size w s + size w s)) s t)
+    never-rule t = statement-never build w p b (suc (suc f)) s label t ∙ sym (terminating-never w p b (suc (size w s + size w s)) s t)
 
     always-rule : isAlways (class w s) ≡ true → Answer
     unfolding isTerminating
-    always-rule t = statement-always build w p b (suc (suc f)) s label t ∙ sym (terminating-always w p b 0 (size w s + size w s) s t)
+    always-rule t = statement-always build w p b (suc (suc f)) s label t ∙ sym (terminating-always w p b (size w s + size w s) s t)
 
     labeled-rule : Answered build w p b (suc (suc f)) → class w s ≡ labeled → Answer
     unfolding ident
@@ -114,9 +114,9 @@ module _ {build : Build} {w p b : List ℕ} (body : Body w p b)
   rows-answered (suc (suc (suc f))) s row statement x =
       row-answered f s row statement x (rows-answered f) (rows-answered (suc f)) (rows-answered (suc (suc f)))
 
-  pub same-verdict : verdict build w p b ≡ verdictOf w p b 0
+  pub same-verdict : verdict build w p b ≡ verdictOf w p b
   unfolding isTerminating
   same-verdict =
       verdict-is build w p b
       ∙ rw (label-of-first w) at (rows-answered (suc (size w 0 + size w 0)) 0 (body .some-rows) (rw (body .root-class)) (omega arith))
-      ∙ sym (rules.verdict-is w p b 0)
+      ∙ sym (rules.verdict-is w p b)

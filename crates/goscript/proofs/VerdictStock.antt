@@ -21,7 +21,7 @@ unfolding carriesLabel
 carries-none w zero f = label-of-first w
 carries-none w (suc t) f = no-label-on w t f
 
-pub stock-verdict : {w p b : List ℕ} → Body w p b → noneLabelled w ≡ true → verdict stock w p b ≡ verdictOf w p b 0
+pub stock-verdict : {w p b : List ℕ} → Body w p b → noneLabelled w ≡ true → verdict stock w p b ≡ verdictOf w p b
 stock-verdict {w} body d = same-verdict body (λ s row t.
     let (c, h) = not-labelled w d s row t in
     record { label = λ r l m e. absurd (holds-none w s h r l m e); implicit = λ l i. absurd (omega (arith, carries-none w s c)) })

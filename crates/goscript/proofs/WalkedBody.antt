@@ -12,7 +12,6 @@ use Rattle.rules.specs.Class.{class}
 use Rattle.rules.specs.Body.{Body}
 use Rattle.rules.proofs.Test.{clash}
 use Rattle.rules.proofs.LabelRows.{other-label}
-use Rattle.tables.proofs.Labelling.{body-end}
 use Rattle.branches.proofs.WalkFaults.{faults-zero}
 use Rattle.goscript.specs.Build.{Build}
 use Rattle.goscript.specs.Syntax.{any, contains, list}
@@ -73,7 +72,8 @@ module _ (build : Build) {w p b : List ℕ} (body : Body w p b) (domain : Domain
       let f : ℕ = size w 0 + size w 0 - 1 in
       let e : size w 0 + size w 0 ≡ suc f = omega arith in
       let o = block-branches build w p b (suc f) [] none (list w 0) new in
-      let n = other-label w p b 0 0 (λ c. clash (cc (body .root-class))) in
+      let whole : 0 + size w 0 ≡ rowCount w = omega (arith, body .root-size) in
+      let n = other-label w p b 0 (λ c. clash (cc (body .root-class))) in
       let (c, jumps) = list-walked body domain f 0 row (rw (body .root-class)) (omega arith) (walked f) none [] new o refl
       (quiet-row body 0 new (rw (body .root-class)) n first-checker) (blocks-first body) in
-      labels-end body build o (ap (λ (n : ℕ). block-branches build w p b n [] none (list w 0) new) (sym e)) (rw (body-end body) at c) (rw (body-end body) at jumps)
+      labels-end body build o (ap (λ (n : ℕ). block-branches build w p b n [] none (list w 0) new) (sym e)) (rw whole at c) (rw whole at jumps)

@@ -22,7 +22,6 @@ use Rattle.rules.proofs.Every.{every}
 use Rattle.rules.proofs.ClassRules.{class-rule, child-rule}
 use Rattle.rules.proofs.Nesting.{item-before, item-from, item-next, ends-before}
 use Rattle.rules.proofs.LabelRows.{label-is, blank-label}
-use Rattle.tables.proofs.Labelling.{body-end}
 use Rattle.goscript.specs.Build.{Place, original, mended, Build}
 use Rattle.goscript.specs.Syntax.{list}
 use Rattle.goscript.specs.Block.{enclosing-target}
@@ -175,7 +174,7 @@ module _ (build : Build) {w p b : List ℕ} (body : Body w p b) (domain : Domain
     -- from the state s1 before the statement, where it stands there
     labeled-walked : (s1 : State) → Position w p b l (suc x) s1 → At w p b l (suc x) s1
         → ((n : List ℕ) → enclosing-target w p b n (s1 .blocks) ≡ enclosing-target w p b n (s .blocks))
-        → (s1 .ctx .lstmt ≡ s .ctx .lstmt) ⊎ ((isLabel w p b 0 x ≡ true) × (s1 .ctx .lstmt ≡ some x))
+        → (s1 .ctx .lstmt ≡ s .ctx .lstmt) ⊎ ((isLabel w p b x ≡ true) × (s1 .ctx .lstmt ≡ some x))
         → Walked build w p b l x s (afterLabeled build (s .ctx .lstmt) (stmt-branches build w p b f (suc x) s1))
     labeled-walked s1 there at1 same before =
         let (h, e) = child in
@@ -192,7 +191,7 @@ module _ (build : Build) {w p b : List ℕ} (body : Body w p b) (domain : Domain
         s2 : State
         s2 = stmt-branches build w p b f (suc x) s1
 
-        left-or-kept : build .A ≡ original → Leaves build w p b (suc x) s1 s2 → (s1 .ctx .lstmt ≡ s .ctx .lstmt) ⊎ ((isLabel w p b 0 x ≡ true) × (s1 .ctx .lstmt ≡ some x))
+        left-or-kept : build .A ≡ original → Leaves build w p b (suc x) s1 s2 → (s1 .ctx .lstmt ≡ s .ctx .lstmt) ⊎ ((isLabel w p b x ≡ true) × (s1 .ctx .lstmt ≡ some x))
             → Leaves build w p b x s s2
         left-or-kept q (kept i) (inl j) = kept (i ∙ j)
         left-or-kept q (kept i) (inr (v, j)) = left c q x (i ∙ j) v row (omega arith)
@@ -204,11 +203,11 @@ module _ (build : Build) {w p b : List ℕ} (body : Body w p b) (domain : Domain
         let st = below-label (n .stacked) c child within in
         case-of (isBlank p b (name w x))
         (λ t.
-        let v = blank-label w p b 0 x t in
+        let v = blank-label w p b x t in
         rw (at-blank build w p b f x s c t)
         (labeled-walked s (item i (record { stacked = st; holds = n .holds; fit = n .fit; on-item = further i v (n .on-item) })) (blank-passed v) (λ m. refl) (inl refl)))
         (λ t.
-        let v : isLabel w p b 0 x ≡ true = label-is w p b 0 x (record { row = (omega arith, omega (arith, body-end body)); labels = c; not-blank = t }) in
+        let v : isLabel w p b x ≡ true = label-is w p b x (record { row = omega arith; labels = c; not-blank = t }) in
         let listed = its-list body home row n (rw c) in
         rw (at-label build w p b f x s c t)
         (labeled-walked (entered w p b x s)
@@ -221,9 +220,9 @@ module _ (build : Build) {w p b : List ℕ} (body : Body w p b) (domain : Domain
         }))
         (entered-state body l x row s v listed a) (entered-targets body l x row s v listed a) (inr (v, entered-current body l x row s v listed a))))
       where
-        further : (i : ℕ) → isLabel w p b 0 x ≡ false → OnItem w p b l i x s → OnItem w p b l i (suc x) s
+        further : (i : ℕ) → isLabel w p b x ≡ false → OnItem w p b l i x s → OnItem w p b l i (suc x) s
         further i v (bare e u) = bare (λ k h m. elim (ℕ-discrete k x) [ yes y ↦ rw y v | no o ↦ e k h (omega arith) ]) (λ g h m t. u g (omega arith) m t)
         further i v (under t h m y e u) = under t h (omega arith) y (λ k j z. elim (ℕ-discrete k x) [ yes q ↦ rw q v | no o ↦ e k j (omega arith) ]) u
 
-        blank-passed : isLabel w p b 0 x ≡ false → At w p b l (suc x) s
+        blank-passed : isLabel w p b x ≡ false → At w p b l (suc x) s
         blank-passed v = passed-row body l x s (rw c) v (λ e. clash (cc)) a

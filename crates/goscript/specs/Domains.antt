@@ -12,7 +12,7 @@ use Rattle.rules.specs.Labels.{isSome, isClass, labels, labelledBreak}
 module _ (w p b : List ℕ) where
   -- the labelled break or continue g names the label of a statement already ended
   unfoldable pub namesEnded : ℕ → Bool
-  namesEnded g = labelledBreak w p b 0 g && isSome (lowest (λ t. labels w p b 0 g t && leb (end w t) g) g)
+  namesEnded g = labelledBreak w p b g && isSome (lowest (λ t. labels w p b g t && leb (end w t) g) g)
 
   -- no labelled break or continue names the label of a statement already ended
   unfoldable pub noneNamesEnded : Bool

@@ -15,11 +15,11 @@ use Rattle.goscript.specs.Domains.{noneNamesEnded, noneLabelled}
 
 -- a build has this body's sheet and bindings
 abbrev pub SameLabels : Build → List ℕ → List ℕ → List ℕ → Type 0
-SameLabels build w p b = (sheet build w p b ≡ sheetOf w p b 0) × (bindings build w p b ≡ bindingsOf w p b 0)
+SameLabels build w p b = (sheet build w p b ≡ sheetOf w p b) × (bindings build w p b ≡ bindingsOf w p b)
 
 -- and its verdict
 abbrev pub SameVerdict : Build → List ℕ → List ℕ → List ℕ → Type 0
-SameVerdict build w p b = verdict build w p b ≡ verdictOf w p b 0
+SameVerdict build w p b = verdict build w p b ≡ verdictOf w p b
 
 -- with A, B and C mended they are the same on every well-formed body
 abbrev pub MendedLaw : List ℕ → List ℕ → List ℕ → Type 0

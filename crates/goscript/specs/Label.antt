@@ -6,7 +6,7 @@ use mathlib.Core.List.{List, [], _∷_, _++_}
 use mathlib.Core.Option.{Option, none, some}
 use Prim.Native.Nat.{ℕ, zero, suc, _+_}
 use lib.Dec.{eqb}
-use Rattle.rules.specs.Rows.{position, name, size, end}
+use Rattle.rules.specs.Rows.{rowCount, position, name, size, end}
 use Rattle.rules.specs.Names.{sameBytes, isBlank}
 use Rattle.rules.specs.Class.{
   Class,
@@ -199,4 +199,4 @@ module _ (build : Build) (w p b : List ℕ) where
   sheet = labels .errors
 
   unfoldable pub bindings : List ℕ
-  bindings = each (λ r. bound labels r ∷ []) (end w 0)
+  bindings = each (λ r. bound labels r ∷ []) (rowCount w)

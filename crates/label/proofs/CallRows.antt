@@ -10,7 +10,7 @@ use native.Mathlib.Omega.{arith}
 use native.Mathlib.Decide.{ℕ-discrete}
 use lib.ListN.{length, getD, take, drop, set, replicate, length-replicate, length-append, length-set}
 use lib.Seq.{ext-getD, length-take-le, getD-take, getD-set-same, getD-set-other, drop-set-lt}
-use Rattle.rules.specs.Rows.{rowCount, name, end}
+use Rattle.rules.specs.Rows.{rowCount, name}
 use Rattle.rules.specs.Class.{goto, class}
 use Rattle.rules.specs.Names.{pairCount}
 use Rattle.rules.specs.Refusals.{refusal}
@@ -25,7 +25,6 @@ use Rattle.rules.proofs.Every.{is-one}
 use Rattle.canonical.proofs.Zeros.{zeros-at}
 use Rattle.tables.specs.Canon.{CanonTable, DeclaredTable, Tables}
 use Rattle.branches.specs.Walk.{Walking, Walked, faultsAt, bindingAt, previousPending}
-use Rattle.tables.proofs.Labelling.{body-end}
 use Rattle.branches.proofs.WalkFaults.{faults-zero, words-length}
 use Rattle.branches.proofs.WalkBindings.{each-length, each-at, bindings-zero, are-bindings, word-before, at-other}
 use Rattle.branches.proofs.WalkPending.{waits}
@@ -88,26 +87,25 @@ walk-requires {w} {p} {b} body cs′ ds′ cs ds ls s t h l d m u lent by-name b
 -- ---- the walk's end
 module _ {w p b : List ℕ} (body : Body w p b) where
   -- words that are the rows' bindings one by one
-  bindings-by-row : (t : List ℕ) → rowCount w ≤ length t → ((g : ℕ) → g < rowCount w → getD t g 0 ≡ binding w p b 0 g) → take (rowCount w) t ≡ bindingsOf w p b 0
+  bindings-by-row : (t : List ℕ) → rowCount w ≤ length t → ((g : ℕ) → g < rowCount w → getD t g 0 ≡ binding w p b g) → take (rowCount w) t ≡ bindingsOf w p b
   unfolding bindingsOf
   bindings-by-row t h e =
       let n = length-take-le (rowCount w) t h in
-      let m = body-end body in
-      ext-getD 0 (take (rowCount w) t) (each (λ r. binding w p b 0 r ∷ []) (end w 0)) (n ∙ sym m ∙ sym (each-length (binding w p b 0) (end w 0)))
-      (λ g l. getD-take (rowCount w) t g 0 (omega arith) ∙ e g (omega arith) ∙ sym (each-at (binding w p b 0) (end w 0) g (omega arith)))
+      ext-getD 0 (take (rowCount w) t) (each (λ r. binding w p b r ∷ []) (rowCount w)) (n ∙ sym (each-length (binding w p b) (rowCount w)))
+      (λ g l. getD-take (rowCount w) t g 0 (omega arith) ∙ e g (omega arith) ∙ sym (each-at (binding w p b) (rowCount w) g (omega arith)))
 
-  end-word : (g : ℕ) → bindingAt w p b (rowCount w) g ≡ binding w p b 0 g
+  end-word : (g : ℕ) → bindingAt w p b (rowCount w) g ≡ binding w p b g
   end-word g = case-of (isClass w goto g)
       (λ u. branch-word body g (rw (is-one (class w g) goto u)))
       (λ u. at-other w p b (rowCount w) g (λ e. clash (cc (one-is (class w g) goto e))))
 
-  left-more : length (faultsLeft w p b) ≤ length (sheetOf w p b 0)
+  left-more : length (faultsLeft w p b) ≤ length (sheetOf w p b)
   unfolding ninesTo
-  left-more = omega (arith, ap length (nines-sheet body), length-append (faultsLeft w p b) (each (λ i. unused w p b 0 (suc i)) (pairCount p)))
+  left-more = omega (arith, ap length (nines-sheet body), length-append (faultsLeft w p b) (each (λ i. unused w p b (suc i)) (pairCount p)))
 
   walked-more : length (faultsAt w p b (rowCount w)) ≤ length (faultsLeft w p b)
   unfolding faultsLeft
-  walked-more = omega (arith, length-append (faultsAt w p b (rowCount w)) (each (unresolved w p b 0) (rowCount w)))
+  walked-more = omega (arith, length-append (faultsAt w p b (rowCount w)) (each (unresolved w p b) (rowCount w)))
 
   pub walked-end : (n : ℕ) (s t s′ t′ h l : List ℕ) → Walked w p b (rowCount w) n s t s′ t′ h l → AtEnd w p b n s′ t′
   walked-end n s t s′ t′ h l y =
@@ -115,7 +113,7 @@ module _ {w p b : List ℕ} (body : Body w p b) where
       record { count = x .count; sheet-room = x .sheet-room; reported = x .reported; bindings-room = x .bindings-room; bound = x .bound }
 
   pub walked-answered : (n m k : ℕ) (s t s₁ t′ h l s₂ s′ : List ℕ) → Walked w p b (rowCount w) n s t s₁ t′ h l → Reported m (faultsLeft w p b) s₁ s₂
-      → Reported k (sheetOf w p b 0) s₂ s′ → Answered w p b k s t s′ t′
+      → Reported k (sheetOf w p b) s₂ s′ → Answered w p b k s t s′ t′
   walked-answered n m k s t s₁ t′ h l s₂ s′ x left all =
       let nm : n ≤ m = omega (arith, x .state .count, left .count, walked-more) in
       let mk : m ≤ k = omega (arith, all .count, left .count, left-more) in
@@ -221,7 +219,7 @@ module _ (w p b s t : List ℕ) where
     call-short-bindings h l = call-short (short-bindings w s t h l)
 
     call-written : tooShort w s t ≡ false
-        → Called w p b s t (answered (length (sheetOf w p b 0))) (written (faultWords (sheetOf w p b 0)) s) (written (bindingsOf w p b 0) t)
+        → Called w p b s t (answered (length (sheetOf w p b))) (written (faultWords (sheetOf w p b)) s) (written (bindingsOf w p b) t)
     unfolding labelCall
     call-written e = rw (← f, e, labelCall) (refl, (refl, refl))
 
@@ -233,7 +231,7 @@ module _ (w p b s t : List ℕ) where
         let k = length-take-le (rowCount w) t′ (omega (arith, x .bindings-length)) in (
           ap (λ (m : ℕ). answered m) (y .count) ∙ c .0,
           (
-            is-written (faultWords (sheetOf w p b 0)) s s′ (n * 4) (omega (arith, y .count, words-length (sheetOf w p b 0))) (y .reported) (y .sheet-kept) ∙ c .1 .0,
-            is-written (bindingsOf w p b 0) t t′ (rowCount w) (sym k ∙ ap length (x .bound)) (x .bound) (x .bindings-kept) ∙ c .1 .1,
+            is-written (faultWords (sheetOf w p b)) s s′ (n * 4) (omega (arith, y .count, words-length (sheetOf w p b))) (y .reported) (y .sheet-kept) ∙ c .1 .0,
+            is-written (bindingsOf w p b) t t′ (rowCount w) (sym k ∙ ap length (x .bound)) (x .bound) (x .bindings-kept) ∙ c .1 .1,
           ),
         )

@@ -8,10 +8,9 @@ use mathlib.Core.Option.{Option, none, some}
 use Prim.Native.Nat.{ℕ, suc, _≤_, _<_}
 use native.Mathlib.Omega.{arith}
 use native.Mathlib.Decide.{ℕ-discrete}
-use lib.Dec.{leb}
 use lib.ListN.{length, getD, set, length-set}
 use lib.Seq.{getD-set-same, getD-set-other}
-use borrow.Author.Tests.{le-leb, ne-eqb}
+use borrow.Author.Tests.{ne-eqb}
 use Rattle.rules.specs.Scan.{highest}
 use Rattle.rules.specs.Rows.{rowCount}
 use Rattle.rules.specs.Class.{declaration}
@@ -27,12 +26,12 @@ use Rattle.label.specs.Contexts.{latestLabel, ListTable, Contexts}
 -- ---- the latest row of a list that passes the test Q
 module _ (w : List ℕ) (Q : ℕ → Bool) where
   abbrev passes : ℕ → ℕ → Bool
-  passes l t = Q t && is (listOf w 0 t) l
+  passes l t = Q t && is (listOf w t) l
 
   abbrev latestRow : ℕ → ℕ → Option ℕ
   latestRow l x = highest (passes l) x
 
-  elsewhere : (l x : ℕ) → is (listOf w 0 x) l ≡ false → passes l x ≡ false
+  elsewhere : (l x : ℕ) → is (listOf w x) l ≡ false → passes l x ≡ false
   elsewhere l x f = case-of (Q x) (λ t. rw (t, f)) (λ t. rw t)
 
   module _ (x : ℕ) (table : List ℕ) where
@@ -42,14 +41,14 @@ module _ (w : List ℕ) (Q : ℕ → Bool) where
       at-list = λ l h. t .at-list l h ∙ ap word (sym (highest-no (passes l) x (rw f)));
     }
 
-    row-set : (k : ℕ) → Q x ≡ true → listOf w 0 x ≡ some k → k < rowCount w → ListTable w latestRow x table
+    row-set : (k : ℕ) → Q x ≡ true → listOf w x ≡ some k → k < rowCount w → ListTable w latestRow x table
         → ListTable w latestRow (suc x) (set table k (suc x))
     row-set k q e h t = record {
       room = rw length-set (t .room);
       at-list = λ l m. elim (ℕ-discrete l k) [
         | yes i ↦
             rw i (getD-set-same table k (suc x) 0 (omega (arith, t .room))
-            ∙ ap word (sym (highest-yes (passes k) x (rw (q, found-is (listOf w 0 x) k e)))))
+            ∙ ap word (sym (highest-yes (passes k) x (rw (q, found-is (listOf w x) k e)))))
         | no o ↦
             getD-set-other table k l (suc x) 0 o ∙ t .at-list l m
             ∙ ap word (sym (highest-no (passes l) x (elsewhere l x (rw e (ne-eqb k l (λ i. o (sym i)))))))
@@ -68,27 +67,27 @@ module _ (w p b : List ℕ) (x : ℕ) (table : List ℕ) where
   unfolding latestIn
   latests-kept = row-kept w (isClass w declaration) x table
 
-  pub latests-set : (k : ℕ) → isClass w declaration x ≡ true → listOf w 0 x ≡ some k → k < rowCount w → ListTable w (latestIn w p b) x table
+  pub latests-set : (k : ℕ) → isClass w declaration x ≡ true → listOf w x ≡ some k → k < rowCount w → ListTable w (latestIn w p b) x table
       → ListTable w (latestIn w p b) (suc x) (set table k (suc x))
   unfolding latestIn
   latests-set = row-set w (isClass w declaration) x table
 
   -- ---- labels
-  pub labels-kept : isLabel w p b 0 x ≡ false → ListTable w (latestLabel w p b) x table → ListTable w (latestLabel w p b) (suc x) table
+  pub labels-kept : isLabel w p b x ≡ false → ListTable w (latestLabel w p b) x table → ListTable w (latestLabel w p b) (suc x) table
   unfolding latestLabel
-  labels-kept = row-kept w (isLabel w p b 0) x table
+  labels-kept = row-kept w (isLabel w p b) x table
 
-  pub labels-set : (k : ℕ) → isLabel w p b 0 x ≡ true → listOf w 0 x ≡ some k → k < rowCount w → ListTable w (latestLabel w p b) x table
+  pub labels-set : (k : ℕ) → isLabel w p b x ≡ true → listOf w x ≡ some k → k < rowCount w → ListTable w (latestLabel w p b) x table
       → ListTable w (latestLabel w p b) (suc x) (set table k (suc x))
   unfolding latestLabel
-  labels-set = row-set w (isLabel w p b 0) x table
+  labels-set = row-set w (isLabel w p b) x table
 
 -- the latest declaration before a label
-pub latest-declaration : (w p b : List ℕ) (x l : ℕ) → listOf w 0 x ≡ some l → latestIn w p b l x ≡ latestDeclaration w p b 0 x
+pub latest-declaration : (w p b : List ℕ) (x l : ℕ) → listOf w x ≡ some l → latestIn w p b l x ≡ latestDeclaration w p b x
 unfolding latestDeclaration latestIn
 latest-declaration w p b x l e = highest-same (passes w (isClass w declaration) l)
-    (λ d. leb 0 d && (isClass w declaration d && elim (listOf w 0 x) [ none ↦ false | some k ↦ is (listOf w 0 d) k ])) x
-    (λ d h. rw (e, le-leb 0 d (omega arith)))
+    (λ d. isClass w declaration d && elim (listOf w x) [ none ↦ false | some k ↦ is (listOf w d) k ]) x
+    (λ d h. rw e)
 
 -- ---- both
 pub contexts-start : {w p b d t : List ℕ} → rowCount w ≤ length d → ((l : ℕ) → getD d l 0 ≡ 0) → rowCount w ≤ length t → ((l : ℕ) → getD t l 0 ≡ 0)
@@ -96,10 +95,10 @@ pub contexts-start : {w p b d t : List ℕ} → rowCount w ≤ length d → ((l 
 unfolding latestIn latestLabel
 contexts-start {w} {p} {b} {d} {t} h z k y = record {
   latests-are = row-start w (isClass w declaration) 0 d h z;
-  labels-are = row-start w (isLabel w p b 0) 0 t k y;
+  labels-are = row-start w (isLabel w p b) 0 t k y;
 }
 
-pub contexts-kept : {w p b d t : List ℕ} {x : ℕ} → isClass w declaration x ≡ false → isLabel w p b 0 x ≡ false → Contexts w p b x d t
+pub contexts-kept : {w p b d t : List ℕ} {x : ℕ} → isClass w declaration x ≡ false → isLabel w p b x ≡ false → Contexts w p b x d t
     → Contexts w p b (suc x) d t
 contexts-kept {w} {p} {b} {d} {t} {x} f g c = record {
   latests-are = latests-kept w p b x d f (c .latests-are);

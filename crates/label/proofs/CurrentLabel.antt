@@ -55,7 +55,7 @@ module _ {w p b : List ℕ} (body : Body w p b) where
       ]
 
   -- the label t, in the list l, stands in the statement of the label s after l: c is t or a label above it, n bounds the steps
-  fills : (l t s : ℕ) → t < rowCount w → listOf w 0 t ≡ some l → l < s
+  fills : (l t s : ℕ) → t < rowCount w → listOf w t ≡ some l → l < s
       → (n c : ℕ) → c < n → c ≤ t → end w c ≡ end w t → class w c ≡ labeled → s ≤ c → c < end w s → end w s ≡ end w t
   unfolding listOf
   fills l t s h f a zero c k m g d u v = absurd (omega arith)
@@ -72,37 +72,36 @@ module _ {w p b : List ℕ} (body : Body w p b) where
               let j = below-label q c row before child i in
               fills l t s h f a n q (omega arith) (omega arith) (sym j ∙ g) i close (omega arith)
           | inr y ↦
-              absurd (innermost-last w 0 isList t l q f (omega arith) (record {
+              absurd (innermost-last w isList t l q f (omega arith) (record {
                 before = omega arith;
-                from = omega arith;
                 reaches = omega (arith, body .child-within q c row child, body .sized .some-rows t h);
                 passes = y;
               }))
         ]
   ]
 
-  module _ (r l : ℕ) (row : r < rowCount w) (e : listOf w 0 r ≡ some l) where
+  module _ (r l : ℕ) (row : r < rowCount w) (e : listOf w r ≡ some l) where
     -- a row around r, after the row of its list, is in that list
-    around-list : (t : ℕ) → l < t → t < r → r < end w t → listOf w 0 t ≡ some l
+    around-list : (t : ℕ) → l < t → t < r → r < end w t → listOf w t ≡ some l
     unfolding listOf
     around-list t a h m =
-        let i = innermost-found w 0 isList r l e in
+        let i = innermost-found w isList r l e in
         let reach = i .reaches in
-        found-innermost w 0 isList t l (record { before = a; from = omega arith; reaches = omega arith; passes = i .passes })
+        found-innermost w isList t l (record { before = a; reaches = omega arith; passes = i .passes })
         (λ q f j.
         let before = j .before in
         let inside = body .nested q t (omega arith) before (j .reaches) in
-        innermost-last w 0 isList r l q e f (record { before = omega arith; from = omega arith; reaches = omega arith; passes = j .passes }))
+        innermost-last w isList r l q e f (record { before = omega arith; reaches = omega arith; passes = j .passes }))
 
     -- the label t of the list l
     abbrev listed : ℕ → Bool
-    listed t = isLabel w p b 0 t && is (listOf w 0 t) l
+    listed t = isLabel w p b t && is (listOf w t) l
 
-    is-listed : (t : ℕ) → isLabel w p b 0 t ≡ true → listOf w 0 t ≡ some l → listed t ≡ true
-    is-listed t i f = rw (i, found-is (listOf w 0 t) l f)
+    is-listed : (t : ℕ) → isLabel w p b t ≡ true → listOf w t ≡ some l → listed t ≡ true
+    is-listed t i f = rw (i, found-is (listOf w t) l f)
 
     -- no current label, where none of the list's can be it
-    none-current : ((s : ℕ) → l < s → s < r → isLabel w p b 0 s ≡ true → r < end w s → ⊥) → currentLabel w p b r ≡ none
+    none-current : ((s : ℕ) → l < s → s < r → isLabel w p b s ≡ true → r < end w s → ⊥) → currentLabel w p b r ≡ none
     none-current n = case-found (currentLabel w p b r)
         (λ s f.
         let (k, x) = is-current w p b r s f in
@@ -117,14 +116,14 @@ module _ {w p b : List ℕ} (body : Body w p b) where
         clash (cc (highest-none listed r s f h, is-listed s i (around-list s a h m))))
 
     module _ (t : ℕ) (f : latestLabel w p b l r ≡ some t) where
-      pub found : (t < r) × (isLabel w p b 0 t ≡ true) × (listOf w 0 t ≡ some l)
+      pub found : (t < r) × (isLabel w p b t ≡ true) × (listOf w t ≡ some l)
       unfolding latestLabel
       found =
           let x = highest-found listed r t f in
-          let y = and-true (isLabel w p b 0 t) (is (listOf w 0 t) l) (x .1) in
-          (x .0, y .0, is-found (listOf w 0 t) l (y .1))
+          let y = and-true (isLabel w p b t) (is (listOf w t) l) (x .1) in
+          (x .0, y .0, is-found (listOf w t) l (y .1))
 
-      last : (s : ℕ) → t < s → s < r → l < s → isLabel w p b 0 s ≡ true → r < end w s → ⊥
+      last : (s : ℕ) → t < s → s < r → l < s → isLabel w p b s ≡ true → r < end w s → ⊥
       unfolding latestLabel
       last s k h a i m = clash (cc (highest-last listed r t s f k h, is-listed s i (around-list s a h m)))
 
@@ -154,6 +153,6 @@ module _ {w p b : List ℕ} (body : Body w p b) where
           ])
 
   -- a row in no list
-  pub no-list : (r : ℕ) → listOf w 0 r ≡ none → currentLabel w p b r ≡ none
+  pub no-list : (r : ℕ) → listOf w r ≡ none → currentLabel w p b r ≡ none
   unfolding currentLabel
   no-list r e = rw (e, currentLabel)

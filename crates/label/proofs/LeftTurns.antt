@@ -16,9 +16,8 @@ use Rattle.rules.specs.Labels.{Fault, unresolved}
 use Rattle.rules.specs.Calls.{faultWords}
 use Rattle.branches.specs.Walk.{bindingAt}
 use Rattle.branches.proofs.WalkBindings.{are-bindings, word-before}
-use Rattle.tables.proofs.Labelling.{body-end}
 use Rattle.label.specs.Rest.{Reported, faultsLeft, AtEnd, UsedTable}
-use Rattle.label.specs.Left.{leftAt, usedBefore, LeftOver}
+use Rattle.label.specs.Left.{leftAt, LeftOver}
 use Rattle.label.proofs.LeftRows.{left-zero, left-suc, before-zero, before-end}
 
 -- ---- what is past more words
@@ -28,7 +27,7 @@ drop-further m n s t h e =
     ap (λ (k : ℕ). drop k s) (sym i) ∙ sym (drop-drop (n - m) m s) ∙ ap (drop (n - m)) e ∙ drop-drop (n - m) m t ∙ ap (λ (k : ℕ). drop k t) i
 
 more-faults : (w p b : List ℕ) (r : ℕ) → length (leftAt w p b r) ≤ length (leftAt w p b (suc r))
-more-faults w p b r = let e = ap length (left-suc w p b r) ∙ length-append (leftAt w p b r) (unresolved w p b 0 r) in omega arith
+more-faults w p b r = let e = ap length (left-suc w p b r) ∙ length-append (leftAt w p b r) (unresolved w p b r) in omega arith
 
 module _ {w p b : List ℕ} where
   -- ---- the start
@@ -70,7 +69,7 @@ module _ {w p b : List ℕ} where
   over-used at s₀ s u body x = record {
     room = x .state .used-room;
     at-canon = λ c d z h e.
-        x .state .used-at c d z h e ∙ ap (λ (n : ℕ). not (usedBefore w p b n d)) (sym (body-end body)) ∙ ap not (before-end w p b d);
+        x .state .used-at c d z h e ∙ ap not (before-end w p b d);
   }
 
   -- a turn of the loop, as the code has it: the words that it leaves have names of their own

@@ -66,8 +66,8 @@ module _ {w p b : List ℕ} (body : Body w p b) (x : ℕ) (h : x < rowCount w) w
     pub is-labeled : k ≡ 3 → class w x ≡ labeled
     is-labeled i = is-one (class w x) labeled (sym label-words ∙ eq-eqb (kind w x) 3 (sym e ∙ i))
 
-    pub no-label : (k ≡ 3 → ⊥) → isLabel w p b 0 x ≡ false
-    no-label n = other-label w p b 0 x (λ c. clash (cc (label-words, one-is (class w x) labeled c, ne-eqb (kind w x) 3 (λ i. n (e ∙ i)))))
+    pub no-label : (k ≡ 3 → ⊥) → isLabel w p b x ≡ false
+    no-label n = other-label w p b x (λ c. clash (cc (label-words, one-is (class w x) labeled c, ne-eqb (kind w x) 3 (λ i. n (e ∙ i)))))
 
     pub is-branch : k ≡ 11 → isBranch (class w x) ≡ true
     is-branch i = sym branch-words ∙ eq-eqb (kind w x) 11 (sym e ∙ i)

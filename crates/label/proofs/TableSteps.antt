@@ -66,8 +66,8 @@ module _ {w p b ls d m : List ℕ} {x : ℕ} (t : Listing w p b ls (suc x)) (h :
 -- ---- a Labeled row; n is its canonical number
 module _ {w p b cs ds ls d m : List ℕ} {x : ℕ} (t : Tables w p b cs ds ls (suc x)) (h : x < rowCount w) (c : class w x ≡ labeled) (contexts : Contexts w p b x d m)
     (n : ℕ) (en : n ≡ getD cs (name w x) 0) where
-  pub blank : n ≡ 0 → isLabel w p b 0 x ≡ false
-  blank z = case-of (isLabel w p b 0 x)
+  pub blank : n ≡ 0 → isLabel w p b x ≡ false
+  blank z = case-of (isLabel w p b x)
       (λ u. absurd (omega (arith, label-numbered (t .body) x h u, canon-read t x n h en)))
       (λ u. u)
 
@@ -75,7 +75,7 @@ module _ {w p b cs ds ls d m : List ℕ} {x : ℕ} (t : Tables w p b cs ds ls (s
   unlabelled z = labels-kept w p b x m (blank z) (contexts .labels-are)
 
   module _ (z : n ≡ 0 → ⊥) (list : ℕ) (e : list ≡ getD ls x 0) where
-    pub labels : isLabel w p b 0 x ≡ true
+    pub labels : isLabel w p b x ≡ true
     labels = numbered-label (t .body) x h c (omega (arith, canon-read t x n h en))
 
     label-in : InList w x list
@@ -92,7 +92,7 @@ module _ {w p b cs ds ls d m : List ℕ} {x : ℕ} (t : Tables w p b cs ds ls (s
       pub labelled-fits : now .label ≤ 2000
       labelled-fits = let g = labelled-row in omega (arith, h, t .body .most-rows)
 
-      pub label-latest : was .latest ≡ getD d (list - 1) 0 → now .latest ≡ word (latestDeclaration w p b 0 x)
+      pub label-latest : was .latest ≡ getD d (list - 1) 0 → now .latest ≡ word (latestDeclaration w p b x)
       label-latest i =
           let j = label-in in
           let before = j .before in
@@ -108,15 +108,15 @@ module _ {w p b cs ds ls d m : List ℕ} {x : ℕ} (t : Tables w p b cs ds ls (s
 module _ {w p b ls m : List ℕ} {x : ℕ} (t : Listing w p b ls (suc x)) (h : x < rowCount w) (u : isBlock (class w x) ≡ true)
     (labels : ListTable w (latestLabel w p b) x m) (list : ℕ) (e : list ≡ getD ls x 0) where
   pub outside : list ≡ 0 → 0 ≡ word (currentLabel w p b x)
-  outside z = case-found (listOf w 0 x)
+  outside z = case-found (listOf w x)
       (λ l f. let i = e ∙ block-word t h u ∙ ap word f in absurd (omega arith))
       (λ f. sym (ap word (no-list (t .body) x f)))
 
   module _ (n : list ≡ 0 → ⊥) where
-    block-in : listOf w 0 x ≡ some (list - 1)
+    block-in : listOf w x ≡ some (list - 1)
     block-in =
         let i : suc (list - 1) ≡ list = omega arith in
-        word-found (listOf w 0 x) (list - 1) (sym (e ∙ block-word t h u) ∙ sym i)
+        word-found (listOf w x) (list - 1) (sym (e ∙ block-word t h u) ∙ sym i)
 
     pub block-list : (0 < list) × (list ≤ x) × (list - 1 < length m)
     block-list =

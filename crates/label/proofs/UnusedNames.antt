@@ -34,13 +34,13 @@ module _ (w p b : List ℕ) (c : ℕ) where
   unfolding isUnused
   unused-none e = rw (e, isUnused)
 
-  pub unused-some : (d : ℕ) → declaredFor w p b c ≡ some d → isUnused w p b c ≡ not (used w p b 0 d)
+  pub unused-some : (d : ℕ) → declaredFor w p b c ≡ some d → isUnused w p b c ≡ not (used w p b d)
   unfolding isUnused
   unused-some d e = rw (e, isUnused)
 
-  pub is-unused : isUnused w p b c ≡ true → (d : ℕ) × (declaredFor w p b c ≡ some d) × (used w p b 0 d ≡ false)
+  pub is-unused : isUnused w p b c ≡ true → (d : ℕ) × (declaredFor w p b c ≡ some d) × (used w p b d ≡ false)
   is-unused t = case-found (declaredFor w p b c)
-      (λ d e. (d, e, not-true (used w p b 0 d) (sym (unused-some d e) ∙ t)))
+      (λ d e. (d, e, not-true (used w p b d) (sym (unused-some d e) ∙ t)))
       (λ e. absurd (clash (cc (unused-none e))))
 
 -- as the tables say
@@ -79,7 +79,7 @@ module _ {w p b : List ℕ} (body : Body w p b) where
       (λ t.
       let (d, e, u) = is-unused w p b (suc k) (and-true (isUnused w p b (suc k)) true t .0) in
       let (row, label, own, number) = is-declared-for body (suc k) d e in
-      let mine : isDeclared w p b d ≡ true = rw (label, found-is (declared w p b 0 d) d own) in
+      let mine : isDeclared w p b d ≡ true = rw (label, found-is (declared w p b d) d own) in
       omega (
         arith,
         unused-to k,

@@ -39,7 +39,7 @@ pub record LabelFor (w p b : List ℕ) (c d : ℕ) : Type 0 where
   pub number : rowCanon w p b d ≡ c
   pub has-name : 0 < name w d
   pub own-bytes : nameBytes p b c ≡ nameBytes p b (name w d)
-  pub at-rank : declaredAt w p b 0 (rank p b c) ≡ some d
+  pub at-rank : declaredAt w p b (rank p b c) ≡ some d
 
 module _ {w p b : List ℕ} (body : Body w p b) where
   pub label-for : (c d : ℕ) → declaredFor w p b c ≡ some d → LabelFor w p b c d
@@ -55,18 +55,18 @@ module _ {w p b : List ℕ} (body : Body w p b) where
         number = number;
         has-name = has-name;
         own-bytes = bytes;
-        at-rank = ap (declaredAt w p b 0) (same-rank p b c (name w d) bytes) ∙ declared-rank body d row has-name ∙ own;
+        at-rank = ap (declaredAt w p b) (same-rank p b c (name w d) bytes) ∙ declared-rank body d row has-name ∙ own;
       }
 
   -- it has its 9 at the rank of the number
-  pub its-nine : (c d : ℕ) → declaredFor w p b c ≡ some d → used w p b 0 d ≡ false → unused w p b 0 (rank p b c) ≡ fault w 9 d ∷ []
-  its-nine c d e f = unused-is w p b 0 (rank p b c) d (label-for c d e .at-rank) f
+  pub its-nine : (c d : ℕ) → declaredFor w p b c ≡ some d → used w p b d ≡ false → unused w p b (rank p b c) ≡ fault w 9 d ∷ []
+  its-nine c d e f = unused-is w p b (rank p b c) d (label-for c d e .at-rank) f
 
   -- and a rank with a 9 is that of a number whose label is not used
-  pub at-rank : (k : ℕ) → (unused w p b 0 k ≡ []) ⊎ ((c : ℕ) × (isUnused w p b c ≡ true) × (rank p b c ≡ k))
-  at-rank k = case-found (declaredAt w p b 0 k)
-      (λ d e. case-of (used w p b 0 d)
-      (λ t. inl (unused-not w p b 0 k d e t))
+  pub at-rank : (k : ℕ) → (unused w p b k ≡ []) ⊎ ((c : ℕ) × (isUnused w p b c ≡ true) × (rank p b c ≡ k))
+  at-rank k = case-found (declaredAt w p b k)
+      (λ d e. case-of (used w p b d)
+      (λ t. inl (unused-not w p b k d e t))
       (λ f.
       let (row, label, own, rank-is) = label-at body k d e in
       let z = label-numbered body d row label in
@@ -77,7 +77,7 @@ module _ {w p b : List ℕ} (body : Body w p b) where
         unused-some w p b c d declared-is ∙ rw f,
         same-rank p b c (name w d) (label-for c d declared-is .own-bytes) ∙ rank-is,
       )))
-      (λ e. inl (unused-none w p b 0 k e))
+      (λ e. inl (unused-none w p b k e))
 
   -- two numbers with a label have different ranks
   rank-number : (c d c′ d′ : ℕ) → LabelFor w p b c d → LabelFor w p b c′ d′ → rank p b c ≡ rank p b c′ → c ≡ c′
@@ -103,7 +103,7 @@ module _ {w p b : List ℕ} (body : Body w p b) where
         (j, l, sym (eqb-true (suc i) (getD s j 0) e))
 
     -- each rank with a 9 is the rank of an element
-    pub in-list : (k : ℕ) → (unused w p b 0 k ≡ []) ⊎ ((j : ℕ) × (j < length s) × (rank p b (getD s j 0) ≡ k))
+    pub in-list : (k : ℕ) → (unused w p b k ≡ []) ⊎ ((j : ℕ) × (j < length s) × (rank p b (getD s j 0) ≡ k))
     in-list k = elim (at-rank k) [
       | inl e ↦ inl e
       | inr x ↦

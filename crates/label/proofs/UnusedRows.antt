@@ -23,7 +23,6 @@ use Rattle.sorting.specs.Sorted.{Sorted}
 use Rattle.tables.specs.Canon.{declaredFor, DeclaredTable}
 use Rattle.branches.specs.Walk.{faultsAt}
 use Rattle.branches.proofs.WalkFaults.{snoc-length, put-length, put-reported, put-kept}
-use Rattle.tables.proofs.Labelling.{body-end}
 use Rattle.label.specs.Rest.{Reported, faultsLeft, UnusedTo}
 use Rattle.label.specs.Left.{leftAt}
 use Rattle.label.proofs.LeftRows.{left-count, all-room}
@@ -34,26 +33,26 @@ use Rattle.label.proofs.UnusedRanks.{label-for, its-nine, element, in-l
 -- ---- the sheet with the ranks up to k
 module _ (w p b : List ℕ) where
   unfoldable pub ninesTo : ℕ → List Fault
-  ninesTo k = faultsLeft w p b ++ each (λ i. unused w p b 0 (suc i)) k
+  ninesTo k = faultsLeft w p b ++ each (λ i. unused w p b (suc i)) k
 
   nines-zero : ninesTo 0 ≡ faultsLeft w p b
   unfolding ninesTo
-  nines-zero = ap (λ (l : List Fault). faultsLeft w p b ++ l) (each-zero (λ i. unused w p b 0 (suc i))) ∙ append-nil (faultsLeft w p b)
+  nines-zero = ap (λ (l : List Fault). faultsLeft w p b ++ l) (each-zero (λ i. unused w p b (suc i))) ∙ append-nil (faultsLeft w p b)
 
-  nines-suc : (k : ℕ) → ninesTo (suc k) ≡ ninesTo k ++ unused w p b 0 (suc k)
+  nines-suc : (k : ℕ) → ninesTo (suc k) ≡ ninesTo k ++ unused w p b (suc k)
   unfolding ninesTo
   nines-suc k =
-      ap (λ (l : List Fault). faultsLeft w p b ++ l) (each-suc (λ i. unused w p b 0 (suc i)) k)
-      ∙ sym (append-assoc (faultsLeft w p b) (each (λ i. unused w p b 0 (suc i)) k) (unused w p b 0 (suc k)))
+      ap (λ (l : List Fault). faultsLeft w p b ++ l) (each-suc (λ i. unused w p b (suc i)) k)
+      ∙ sym (append-assoc (faultsLeft w p b) (each (λ i. unused w p b (suc i)) k) (unused w p b (suc k)))
 
-  nines-none : (k : ℕ) → unused w p b 0 (suc k) ≡ [] → ninesTo (suc k) ≡ ninesTo k
+  nines-none : (k : ℕ) → unused w p b (suc k) ≡ [] → ninesTo (suc k) ≡ ninesTo k
   nines-none k e = rw (nines-suc k, e) (append-nil (ninesTo k))
 
-  nines-one : (k : ℕ) (f : Fault) → unused w p b 0 (suc k) ≡ f ∷ [] → ninesTo (suc k) ≡ ninesTo k ++ f ∷ []
+  nines-one : (k : ℕ) (f : Fault) → unused w p b (suc k) ≡ f ∷ [] → ninesTo (suc k) ≡ ninesTo k ++ f ∷ []
   nines-one k f e = rw (nines-suc k, e)
 
   -- no fault between two ranks
-  nines-gap : (a k : ℕ) → a ≤ k → ((i : ℕ) → a < i → i ≤ k → unused w p b 0 i ≡ []) → ninesTo k ≡ ninesTo a
+  nines-gap : (a k : ℕ) → a ≤ k → ((i : ℕ) → a < i → i ≤ k → unused w p b i ≡ []) → ninesTo k ≡ ninesTo a
   nines-gap a zero h none = let e : 0 ≡ a = omega arith in ap ninesTo e
   nines-gap a (suc k) h none = elim (ℕ-discrete a (suc k)) [
     | yes e ↦ ap ninesTo (sym e)
@@ -61,12 +60,10 @@ module _ (w p b : List ℕ) where
   ]
 
 -- all of it
-pub nines-sheet : {w p b : List ℕ} → Body w p b → ninesTo w p b (pairCount p) ≡ sheetOf w p b 0
+pub nines-sheet : {w p b : List ℕ} → Body w p b → ninesTo w p b (pairCount p) ≡ sheetOf w p b
 unfolding ninesTo faultsLeft faultsAt sheetOf
 nines-sheet {w} {p} {b} body =
-    let e = body-end body in
-    append-assoc (each (report w p b 0) (rowCount w)) (each (unresolved w p b 0) (rowCount w)) (each (λ i. unused w p b 0 (suc i)) (pairCount p))
-    ∙ ap (λ (n : ℕ). each (report w p b 0) n ++ (each (unresolved w p b 0) n ++ each (λ i. unused w p b 0 (suc i)) (pairCount p))) (sym e)
+    append-assoc (each (report w p b) (rowCount w)) (each (unresolved w p b) (rowCount w)) (each (λ i. unused w p b (suc i)) (pairCount p))
 
 -- ---- the rank up to which the sheet is written after the first j names of s
 unfoldable pub upTo : List ℕ → List ℕ → List ℕ → ℕ → ℕ
@@ -96,13 +93,13 @@ module _ {w p b : List ℕ} (body : Body w p b) (s : List ℕ) (all : UnusedTo w
   ])
 
   -- the next name
-  nines-next : (j d : ℕ) → j < length s → declaredFor w p b (getD s j 0) ≡ some d → used w p b 0 d ≡ false
+  nines-next : (j d : ℕ) → j < length s → declaredFor w p b (getD s j 0) ≡ some d → used w p b d ≡ false
       → ninesTo w p b (upTo p b s (suc j)) ≡ ninesTo w p b (upTo p b s j) ++ fault w 9 d ∷ []
   unfolding upTo
   nines-next j d h e f =
       let r = rank p b (getD s j 0) in
       let i : suc (r - 1) ≡ r = omega (arith, ahead j h) in
-      let one : unused w p b 0 (suc (r - 1)) ≡ fault w 9 d ∷ [] = rw i (its-nine body (getD s j 0) d e f) in
+      let one : unused w p b (suc (r - 1)) ≡ fault w 9 d ∷ [] = rw i (its-nine body (getD s j 0) d e f) in
       ap (ninesTo w p b) (sym i) ∙ nines-one w p b (r - 1) (fault w 9 d) one
       ∙ ap (λ (l : List Fault). l ++ fault w 9 d ∷ []) (gap j (r - 1) (omega arith) (omega (arith, ahead j h))
       (λ i m n. omega (arith, ranks-up body s all sorted j i m n, ahead j h)))
@@ -116,7 +113,7 @@ module _ {w p b : List ℕ} (body : Body w p b) (s : List ℕ) (all : UnusedTo w
       let x = label-for body (getD s j 0) d e in
       rank-within p b (getD s j 0) (x .above) (x .within)
 
-  nines-end : ninesTo w p b (upTo p b s (length s)) ≡ sheetOf w p b 0
+  nines-end : ninesTo w p b (upTo p b s (length s)) ≡ sheetOf w p b
   nines-end = sym (gap (length s) (pairCount p) (omega arith) (within (length s) (omega arith)) (λ i m n. absurd (omega arith))) ∙ nines-sheet body
 
   nines-length : (j : ℕ) → j ≤ length s → length (ninesTo w p b (upTo p b s j)) ≡ length (faultsLeft w p b) + j
@@ -140,7 +137,7 @@ unfolding upTo
 nines-start w p b s at t x = (omega arith, rw (nines-zero w p b) x)
 
 pub nines-all : {w p b : List ℕ} (s : List ℕ) (j at : ℕ) (t₀ t : List ℕ) → Body w p b → Sorted p b s → UnusedTo w p b (pairCount p) s → length s ≤ j → Nines w p b s j at t₀ t
-    → Reported at (sheetOf w p b 0) t₀ t
+    → Reported at (sheetOf w p b) t₀ t
 nines-all {w} {p} {b} s j at t₀ t body sorted all h (l, x) =
     let e : j ≡ length s = omega arith in
     rw (ap (λ (n : ℕ). ninesTo w p b (upTo p b s n)) e ∙ nines-end body s all sorted) at x
@@ -165,7 +162,7 @@ name-within-table {w} {p} {b} {ds} s j body by-canon all h =
 
 module _ {w p b ds s t₀ t : List ℕ} {j at c d : ℕ} (n : AtName w p b ds s t₀ t j at c d) where
   -- its label, which is not used
-  label : (e : ℕ) × (declaredFor w p b (getD s j 0) ≡ some e) × (used w p b 0 e ≡ false) × (d ≡ suc e)
+  label : (e : ℕ) × (declaredFor w p b (getD s j 0) ≡ some e) × (used w p b e ≡ false) × (d ≡ suc e)
   label =
       let (e, f, u) = is-unused w p b (getD s j 0) (element (n .body) s (n .all) j (n .more)) in
       let x = label-for (n .body) (getD s j 0) e f in

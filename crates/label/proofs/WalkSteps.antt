@@ -22,7 +22,7 @@ use Rattle.label.specs.Contexts.{Contexts}
 use Rattle.label.proofs.LeftTurns.{drop-further}
 
 -- ---- one row
-idle : {w p b : List ℕ} (x : ℕ) → isBranch (class w x) ≡ false → isLabel w p b 0 x ≡ false → Idle w p b x
+idle : {w p b : List ℕ} (x : ℕ) → isBranch (class w x) ≡ false → isLabel w p b x ≡ false → Idle w p b x
 idle {w} x f n = record {
   no-label = n;
   no-goto = λ e. let z : false ≡ true = sym f ∙ branch-goto (class w x) e in clash (cc);
@@ -31,7 +31,7 @@ idle {w} x f n = record {
 }
 
 module _ {w p b : List ℕ} {x f : ℕ} {s bs hs l : List ℕ} (h : x < rowCount w) (walking : Walking w p b x f s bs hs l)
-    (no-label : isLabel w p b 0 x ≡ false) (no-branch : isBranch (class w x) ≡ false) where
+    (no-label : isLabel w p b x ≡ false) (no-branch : isBranch (class w x) ≡ false) where
   pub passed : isBlock (class w x) ≡ false → Walked w p b (suc x) f s bs s bs hs l
   passed n = idle-walked w p b x f s bs hs l h (idle x no-branch no-label) walking n
 
@@ -39,15 +39,15 @@ module _ {w p b : List ℕ} {x f : ℕ} {s bs hs l : List ℕ} (h : x < rowCount
   linked e = rw e (block-walked w p b x f s bs hs l h (idle x no-branch no-label) walking (word (currentLabel w p b x)) refl)
 
 pub labeled-passed : {w p b : List ℕ} {x f : ℕ} {s bs hs l : List ℕ} → x < rowCount w → Walking w p b x f s bs hs l → class w x ≡ labeled
-    → isLabel w p b 0 x ≡ false → Walked w p b (suc x) f s bs s bs hs l
+    → isLabel w p b x ≡ false → Walked w p b (suc x) f s bs s bs hs l
 labeled-passed h walking c n = passed h walking n (rw c) (rw c)
 
 -- ---- one piece after another
 faults-grow : (w p b : List ℕ) (x d : ℕ) → length (faultsAt w p b x) ≤ length (faultsAt w p b (x + d))
 faults-grow w p b x zero = rw (add-zero x) (omega arith)
 faults-grow w p b x (suc d) =
-    let e : length (faultsAt w p b (suc (x + d))) ≡ length (faultsAt w p b (x + d)) + length (report w p b 0 (x + d)) =
-    ap length (faults-suc w p b (x + d)) ∙ length-append (faultsAt w p b (x + d)) (report w p b 0 (x + d)) in
+    let e : length (faultsAt w p b (suc (x + d))) ≡ length (faultsAt w p b (x + d)) + length (report w p b (x + d)) =
+    ap length (faults-suc w p b (x + d)) ∙ length-append (faultsAt w p b (x + d)) (report w p b (x + d)) in
     rw (add-suc x d) (omega (arith, faults-grow w p b x d, e))
 
 faults-more : (w p b : List ℕ) (x y : ℕ) → x ≤ y → length (faultsAt w p b x) ≤ length (faultsAt w p b y)

@@ -46,7 +46,7 @@ pub record Lent (w p canons declareds lists sheet bindings heads links latests l
 
 -- the sheet's row count, and both written
 pub record Answered (w p b : List ℕ) (n : ℕ) (s t s′ t′ : List ℕ) : Type 0 where
-  pub on-sheet : Reported n (sheetOf w p b 0) s s′
+  pub on-sheet : Reported n (sheetOf w p b) s s′
   pub bindings-length : length t′ ≡ length t
-  pub bound : take (rowCount w) t′ ≡ bindingsOf w p b 0
+  pub bound : take (rowCount w) t′ ≡ bindingsOf w p b
   pub bindings-kept : drop (rowCount w) t′ ≡ drop (rowCount w) t

@@ -23,7 +23,7 @@ pub record ListTable (w : List ℕ) (latest : ℕ → ℕ → Option ℕ) (x : �
 module _ (w p b : List ℕ) where
   -- the latest label, not `_`, of the list l before row x
   unfoldable pub latestLabel : ℕ → ℕ → Option ℕ
-  latestLabel l x = highest (λ t. isLabel w p b 0 t && is (listOf w 0 t) l) x
+  latestLabel l x = highest (λ t. isLabel w p b t && is (listOf w t) l) x
 
   -- both tables at row x
   pub record Contexts (x : ℕ) (latests labels : List ℕ) : Type 0 where

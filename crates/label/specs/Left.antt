@@ -8,7 +8,7 @@ use Prim.Native.Nat.{ℕ, suc, _*_, _≤_, _<_}
 use lib.Dec.{eqb}
 use lib.ListN.{length, getD, take, drop}
 use Rattle.rules.specs.Scan.{lowest}
-use Rattle.rules.specs.Rows.{rowCount, end}
+use Rattle.rules.specs.Rows.{rowCount}
 use Rattle.rules.specs.Class.{isBranch, class}
 use Rattle.rules.specs.Names.{pairCount}
 use Rattle.rules.specs.Labels.{Fault, each, is, isSome, pending, binding, declared, unresolved}
@@ -19,12 +19,12 @@ use Rattle.branches.specs.Walk.{faultsAt}
 module _ (w p b : List ℕ) where
   -- the sheet of the walk, and the gotos before row r that are pending at the end
   unfoldable pub leftAt : ℕ → List Fault
-  leftAt r = faultsAt w p b (rowCount w) ++ each (unresolved w p b 0) r
+  leftAt r = faultsAt w p b (rowCount w) ++ each (unresolved w p b) r
 
   -- whether a branch before row r uses the label d
   unfoldable pub usedBefore : ℕ → ℕ → Bool
   usedBefore r d = isSome (lowest
-      (λ g. isBranch (class w g) && (eqb (binding w p b 0 g) (suc d) || (pending w p b 0 (end w 0) g && is (declared w p b 0 g) d))) r)
+      (λ g. isBranch (class w g) && (eqb (binding w p b g) (suc d) || (pending w p b (rowCount w) g && is (declared w p b g) d))) r)
 
   -- which declared labels they use, by canonical number
   abbrev pub UsedBefore : ℕ → List ℕ → Type 0

@@ -26,7 +26,7 @@ pub record Reported (n : ℕ) (faults : List Fault) (sheet sheet′ : List ℕ) 
 module _ (w p b : List ℕ) where
   -- the sheet up to the gotos that are pending at the end
   unfoldable pub faultsLeft : List Fault
-  faultsLeft = faultsAt w p b (rowCount w) ++ each (unresolved w p b 0) (rowCount w)
+  faultsLeft = faultsAt w p b (rowCount w) ++ each (unresolved w p b) (rowCount w)
 
   -- the end of the walk
   pub record AtEnd (faults : ℕ) (sheet bindings : List ℕ) : Type 0 where
@@ -39,11 +39,11 @@ module _ (w p b : List ℕ) where
   -- which declared labels are used, by canonical number
   pub record UsedTable (useds : List ℕ) : Type 0 where
     pub room : pairCount p < length useds
-    pub at-canon : (c d : ℕ) → 0 < c → c ≤ pairCount p → declaredFor w p b c ≡ some d → eqb (getD useds c 0) 0 ≡ not (used w p b 0 d)
+    pub at-canon : (c d : ℕ) → 0 < c → c ≤ pairCount p → declaredFor w p b c ≡ some d → eqb (getD useds c 0) 0 ≡ not (used w p b d)
 
   -- the label declared for the canonical number c is not used
   unfoldable pub isUnused : ℕ → Bool
-  isUnused c = elim (declaredFor w p b c) [ none ↦ false | some d ↦ not (used w p b 0 d) ]
+  isUnused c = elim (declaredFor w p b c) [ none ↦ false | some d ↦ not (used w p b d) ]
 
   -- s holds the canonical numbers up to k of labels that are not used, each once
   abbrev pub UnusedTo : ℕ → List ℕ → Type 0

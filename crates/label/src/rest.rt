@@ -143,7 +143,7 @@ fn put_unused(
     requires { ⌜ Body (now rows) (now pairs) (now bytes) × DeclaredTable (now rows) (now pairs) (now bytes) (now declareds) ⌝ }
     requires { ⌜ Sorted (now pairs) (now bytes) (now names) × UnusedTo (now rows) (now pairs) (now bytes) (pairCount (now pairs)) (now names) ⌝ }
     requires { ⌜ Reported faults (faultsLeft (now rows) (now pairs) (now bytes)) (now sheet) (now sheet) × (rowCount (now rows) * 8 ≤ length (now sheet)) ⌝ }
-    ensures { λ r. ⌜ Reported r (sheetOf (now (rows .entry)) (now (pairs .entry)) (now (bytes .entry)) 0) (now (sheet .entry)) (now (sheet .exit)) ⌝ }
+    ensures { λ r. ⌜ Reported r (sheetOf (now (rows .entry)) (now (pairs .entry)) (now (bytes .entry))) (now (sheet .entry)) (now (sheet .exit)) ⌝ }
 {
     let mut at = faults;
     let mut j = 0;
@@ -172,7 +172,7 @@ pub fn unused(
     requires { ⌜ Body (now rows) (now pairs) (now bytes) × DeclaredTable (now rows) (now pairs) (now bytes) (now declareds) × UsedTable (now rows) (now pairs) (now bytes) (now used) ⌝ }
     requires { ⌜ (pairCount (now pairs) < length (now names)) × (rowCount (now rows) ≤ length (now spare)) ⌝ }
     requires { ⌜ Reported faults (faultsLeft (now rows) (now pairs) (now bytes)) (now sheet) (now sheet) × (rowCount (now rows) * 8 ≤ length (now sheet)) ⌝ }
-    ensures { λ r. ⌜ Reported r (sheetOf (now (rows .entry)) (now (pairs .entry)) (now (bytes .entry)) 0) (now (sheet .entry)) (now (sheet .exit)) ⌝ }
+    ensures { λ r. ⌜ Reported r (sheetOf (now (rows .entry)) (now (pairs .entry)) (now (bytes .entry))) (now (sheet .entry)) (now (sheet .exit)) ⌝ }
 {
     let n = unused_names(rows, pairs, bytes, declareds, used, names);
     sorting::sort(pairs, bytes, &mut names[..n], &mut spare[..n]);

@@ -21,17 +21,17 @@ use Rattle.lists.specs.Listed.{ListedBelow, Open, EndsAt, InHand, ListAr
 
 module _ (w : List ℕ) where
   -- ---- what was found at row r
-  pub open-found : (r o : ℕ) → o ≡ word (innermost w 0 holdsItems r) → Open w o r
-  open-found r o e = case-found (innermost w 0 holdsItems r)
+  pub open-found : (r o : ℕ) → o ≡ word (innermost w holdsItems r) → Open w o r
+  open-found r o e = case-found (innermost w holdsItems r)
       (λ k f.
-      let i = innermost-found w 0 holdsItems r k f in
+      let i = innermost-found w holdsItems r k f in
       let s : o ≡ suc k = rw f at e in
       let p : o - 1 ≡ k = omega arith in
       record {
         before = omega (arith, i .before);
         holds = λ h. rw p (i .passes);
         ended = λ q a l t. elim (decLt r (end w q)) [
-          | yes y ↦ absurd (innermost-last w 0 holdsItems r k q f (omega arith) (record { before = l; from = omega arith; reaches = y; passes = t }))
+          | yes y ↦ absurd (innermost-last w holdsItems r k q f (omega arith) (record { before = l; reaches = y; passes = t }))
           | no n ↦ omega arith
         ];
       })
@@ -41,7 +41,7 @@ module _ (w : List ℕ) where
         before = omega arith;
         holds = λ h. absurd (omega arith);
         ended = λ q a l t. elim (decLt r (end w q)) [
-          | yes y ↦ absurd (innermost-none w 0 holdsItems r q f (record { before = l; from = omega arith; reaches = y; passes = t }))
+          | yes y ↦ absurd (innermost-none w holdsItems r q f (record { before = l; reaches = y; passes = t }))
           | no n ↦ omega arith
         ];
       })
@@ -66,7 +66,7 @@ module _ (w : List ℕ) where
   }
 
   -- t says whether row r holds items, o is what was found at it
-  pub open-more : (o r : ℕ) (t : Bool) → t ≡ holdsItems (class w r) → o ≡ word (innermost w 0 holdsItems r) → (x : ℕ)
+  pub open-more : (o r : ℕ) (t : Bool) → t ≡ holdsItems (class w r) → o ≡ word (innermost w holdsItems r) → (x : ℕ)
       → ((t ≡ true) × (x ≡ r + 1)) ⊎ ((t ≡ false) × (x ≡ o)) → Open w x (r + 1)
   open-more o r t e f x s = ⊎-elim
       (λ a. rw (a .1) (open-here r (sym e ∙ a .0)))
@@ -75,18 +75,18 @@ module _ (w : List ℕ) where
 
   -- ---- the row in hand
   module _ (o r : ℕ) (s : Open w o r) where
-    pub open-reaches : 0 < o → r < end w (o - 1) → o ≡ word (innermost w 0 holdsItems r)
+    pub open-reaches : 0 < o → r < end w (o - 1) → o ≡ word (innermost w holdsItems r)
     open-reaches h l =
         let b = s .before in
-        let f = found-innermost w 0 holdsItems r (o - 1)
-        (record { before = omega arith; from = omega arith; reaches = l; passes = s .holds h })
+        let f = found-innermost w holdsItems r (o - 1)
+        (record { before = omega arith; reaches = l; passes = s .holds h })
         (λ q a i. omega (arith, i .reaches, s .ended q (omega arith) (i .before) (i .passes))) in
         rw f (omega arith)
 
-    pub open-empty : o ≡ 0 → 0 ≡ word (innermost w 0 holdsItems r)
-    open-empty z = rw (none-innermost w 0 holdsItems r (λ q i. omega (arith, i .reaches, s .ended q (omega arith) (i .before) (i .passes))))
+    pub open-empty : o ≡ 0 → 0 ≡ word (innermost w holdsItems r)
+    open-empty z = rw (none-innermost w holdsItems r (λ q i. omega (arith, i .reaches, s .ended q (omega arith) (i .before) (i .passes))))
 
-    pub open-outer : (v : ℕ) → 0 < o → end w (o - 1) ≤ r → v ≡ word (innermost w 0 holdsItems (o - 1)) → Open w v r × (v < o)
+    pub open-outer : (v : ℕ) → 0 < o → end w (o - 1) ≤ r → v ≡ word (innermost w holdsItems (o - 1)) → Open w v r × (v < o)
     open-outer v h l e =
         let b = s .before in
         let t = open-found (o - 1) v e in
@@ -103,7 +103,7 @@ module _ (w : List ℕ) where
         )
 
     -- while its end is not reached, the row in hand is the one to write
-    pub open-kept : (e : ℕ) → EndsAt w o e → r < e → o ≡ word (innermost w 0 holdsItems r)
+    pub open-kept : (e : ℕ) → EndsAt w o e → r < e → o ≡ word (innermost w holdsItems r)
     open-kept e q l = elim (decLt 0 o) [
       | yes h ↦ open-reaches h (omega (arith, q h))
       | no n ↦ let z : o ≡ 0 = omega arith in z ∙ open-empty z
@@ -121,7 +121,7 @@ module _ (w : List ℕ) where
   ends-here r n q h = let e : r + 1 - 1 ≡ r = omega arith in rw e (omega arith)
 
   -- ---- the words
-  pub listed-more : (l : List ℕ) (r v : ℕ) → r < length l → v ≡ word (innermost w 0 holdsItems r) → ListedBelow w l r → ListedBelow w (set l r v) (r + 1)
+  pub listed-more : (l : List ℕ) (r v : ℕ) → r < length l → v ≡ word (innermost w holdsItems r) → ListedBelow w l r → ListedBelow w (set l r v) (r + 1)
   listed-more l r v h e b q m = elim (ℕ-discrete q r) [
     | yes y ↦ rw y (getD-set-same l r v 0 h ∙ e)
     | no n ↦ getD-set-other l r q v 0 n ∙ b q (omega arith)

@@ -12,7 +12,7 @@ use Rattle.rules.specs.Labels.{word}
 
 -- each of the first x words is 1 + the innermost such row around its row, or 0
 abbrev pub ListedBelow : List ℕ → List ℕ → ℕ → Type 0
-ListedBelow w l x = (r : ℕ) → r < x → getD l r 0 ≡ word (innermost w 0 holdsItems r)
+ListedBelow w l x = (r : ℕ) → r < x → getD l r 0 ≡ word (innermost w holdsItems r)
 
 -- so is each row's word
 abbrev pub Listed : List ℕ → List ℕ → Type 0
@@ -34,4 +34,4 @@ InHand w list e r = Open w list r × EndsAt w list e
 
 -- the list around row r, and where it ends
 abbrev pub ListAround : List ℕ → ℕ → ℕ → ℕ → Type 0
-ListAround w list e r = (list ≡ word (innermost w 0 holdsItems r)) × EndsAt w list e
+ListAround w list e r = (list ≡ word (innermost w holdsItems r)) × EndsAt w list e

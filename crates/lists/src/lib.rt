@@ -41,7 +41,7 @@ fn holds_items(kind: u32) -> bool
 fn still_open(rows: &[u32], lists: &[u16], list: usize, r: usize) -> usize
     requires { ⌜ Sized (now rows) × Open (now rows) list r × ListedBelow (now rows) (now lists) r ⌝ }
     requires { ⌜ (r < rowCount (now rows)) × (rowCount (now rows) ≤ length (now lists)) ⌝ }
-    ensures { λ o. ⌜ o ≡ word (innermost (now (rows .entry)) 0 holdsItems r) ⌝ }
+    ensures { λ o. ⌜ o ≡ word (innermost (now (rows .entry)) holdsItems r) ⌝ }
 {
     let mut open = list;
     while 0 < open {

@@ -27,17 +27,17 @@ module _ (w p b s t : List ℕ) where
   refusal-marked r e = let c = call-refused w p b s t r e in (marks-refused (c .0), c .1)
 
   module _ (wf : WellFormed w p b) where
-    placing-answers : placingCall w p b ≡ answered (placing w 0)
+    placing-answers : placingCall w p b ≡ answered (placing w)
     unfolding placingCall
     placing-answers = rw (wf, placingCall)
 
-    verdict-answers : verdictCall w p b ≡ answered (verdict w p b 0)
+    verdict-answers : verdictCall w p b ≡ answered (verdict w p b)
     unfolding verdictCall
     verdict-answers = rw (wf, verdictCall)
 
-    pub marks-answered : {n : ℕ} {o : Option ℕ} {v : Bool} → answered n ≡ labelCall w p b s t .answer → o ≡ placing w 0 → v ≡ isTerminating w p b 0
+    pub marks-answered : {n : ℕ} {o : Option ℕ} {v : Bool} → answered n ≡ labelCall w p b s t .answer → o ≡ placing w → v ≡ isTerminating w p b 0
         → answered (n, o, v) ≡ marksCall w p b s t
     unfolding marksCall isTerminating
     marks-answered {n} {o} {v} e f g =
-        let h : v ≡ verdict w p b 0 = g ∙ sym (verdict-is w p b 0) in
+        let h : v ≡ verdict w p b = g ∙ sym (verdict-is w p b) in
         rw (f, h, marksCall, ← e, placing-answers, verdict-answers)

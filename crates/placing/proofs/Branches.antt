@@ -6,7 +6,7 @@ use mathlib.Core.List.{List, [], _∷_}
 use Prim.Native.Nat.{ℕ}
 use native.Mathlib.Omega.{arith}
 use lib.Dec.{eqb}
-use borrow.Author.Tests.{ne-eqb, le-leb}
+use borrow.Author.Tests.{ne-eqb}
 use Rattle.rules.specs.Rows.{kind, detail, name}
 use Rattle.rules.specs.Class.{Class, break, continue, goto, fallthrough, oneOf, isBranch, isBreakable, isLoop, isStatement, detailAllowed, classOf, base, class}
 use Rattle.rules.specs.Scope.{innermost}
@@ -25,15 +25,15 @@ module _ (w : List ℕ) (r d : ℕ) (a : detailAllowed (kind w r) (detail w r) �
   unfolding base
   branch-class n e = no-block w r a (ap (λ (m : ℕ). eqb m 12) k) ∙ ap (λ (m : ℕ). classOf m (detail w r)) k ∙ ap (classOf 11) (sym i ∙ e)
 
-  pub place-break : d ≡ 0 → isSome (innermost w 0 isBreakable r) ≡ wellPlaced w 0 r
+  pub place-break : d ≡ 0 → isSome (innermost w isBreakable r) ≡ wellPlaced w r
   unfolding classOf wellPlaced
   place-break e = let b : class w r ≡ break = branch-class 0 e in rw (b, wellPlaced)
 
-  pub place-continue : d ≡ 1 → isSome (innermost w 0 isLoop r) ≡ wellPlaced w 0 r
+  pub place-continue : d ≡ 1 → isSome (innermost w isLoop r) ≡ wellPlaced w r
   unfolding classOf wellPlaced
   place-continue e = let b : class w r ≡ continue = branch-class 1 e in rw (b, wellPlaced, b)
 
-  pub place-fallthrough : d ≡ 3 → endsCase w 0 r ≡ wellPlaced w 0 r
+  pub place-fallthrough : d ≡ 3 → endsCase w r ≡ wellPlaced w r
   unfolding classOf wellPlaced
   place-fallthrough e = let b : class w r ≡ fallthrough = branch-class 3 e in rw (b, wellPlaced, b, b)
 
@@ -41,7 +41,7 @@ module _ (w : List ℕ) (r d : ℕ) (a : detailAllowed (kind w r) (detail w r) �
   unfolding classOf
   statement-fallthrough e = let b : class w r ≡ fallthrough = branch-class 3 e in rw b
 
-  pub place-goto : NoneOf (3 ∷ 1 ∷ 0 ∷ []) d → true ≡ wellPlaced w 0 r
+  pub place-goto : NoneOf (3 ∷ 1 ∷ 0 ∷ []) d → true ≡ wellPlaced w r
   unfolding classOf wellPlaced
   place-goto n =
       let s = allowed-small (kind w r) (detail w r) a .1 in
@@ -57,23 +57,23 @@ other-class : (c d : Class) → isBranch c ≡ false → isBranch d ≡ true →
 other-class c d n t = one-not c d (λ e. let u : isBranch c ≡ true = rw e t in clash (cc))
 
 module _ (w : List ℕ) (r : ℕ) where
-  well-not-bad : wellPlaced w 0 r ≡ true → false ≡ badlyPlaced w 0 r
+  well-not-bad : wellPlaced w r ≡ true → false ≡ badlyPlaced w r
   unfolding badlyPlaced
   well-not-bad t = rw (t, badlyPlaced, and-false)
 
-  pub no-branch-not-bad : isBranch (class w r) ≡ false → false ≡ badlyPlaced w 0 r
+  pub no-branch-not-bad : isBranch (class w r) ≡ false → false ≡ badlyPlaced w r
   unfolding wellPlaced
   no-branch-not-bad b =
       let c = class w r in
       well-not-bad (rw (other-class c break b refl, wellPlaced, other-class c continue b refl, other-class c fallthrough b refl))
 
-  pub other-not-bad : (k : ℕ) → k ≡ kind w r → detailAllowed (kind w r) (detail w r) ≡ true → (k ≡ 11 → ⊥) → false ≡ badlyPlaced w 0 r
+  pub other-not-bad : (k : ℕ) → k ≡ kind w r → detailAllowed (kind w r) (detail w r) ≡ true → (k ≡ 11 → ⊥) → false ≡ badlyPlaced w r
   other-not-bad k e a n = no-branch-not-bad (sym (by-words isBranch w r k (eqb k 11) (own-branch w r) e a (λ d x. kind-jump k d x)) ∙ ne-eqb k 11 n)
 
-  pub named-not-bad : (n : ℕ) → n ≡ name w r → (n ≡ 0 → ⊥) → false ≡ badlyPlaced w 0 r
+  pub named-not-bad : (n : ℕ) → n ≡ name w r → (n ≡ 0 → ⊥) → false ≡ badlyPlaced w r
   unfolding badlyPlaced
-  named-not-bad n e z = rw (le-leb 0 r (omega arith), ← e, ne-eqb n 0 z, badlyPlaced)
+  named-not-bad n e z = rw (← e, ne-eqb n 0 z, badlyPlaced)
 
-  pub not-well-bad : (n : ℕ) → n ≡ name w r → n ≡ 0 → not (wellPlaced w 0 r) ≡ badlyPlaced w 0 r
+  pub not-well-bad : (n : ℕ) → n ≡ name w r → n ≡ 0 → not (wellPlaced w r) ≡ badlyPlaced w r
   unfolding badlyPlaced
-  not-well-bad n e z = rw (le-leb 0 r (omega arith), ← e, z, badlyPlaced)
+  not-well-bad n e z = rw (← e, z, badlyPlaced)

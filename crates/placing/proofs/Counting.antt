@@ -31,7 +31,7 @@ own-counted w r = rw (own-branch w r, own-breakable w r)
 
 -- what the search knows at row r: no row before it is badly placed, and how far those reach that a break and a continue need
 abbrev pub Known : List ℕ → ℕ → ℕ → ℕ → Type 0
-Known w r b l = ((k : ℕ) → k < r → badlyPlaced w 0 k ≡ false) × Reach w isBreakable r b × Reach w isLoop r l
+Known w r b l = ((k : ℕ) → k < r → badlyPlaced w k ≡ false) × Reach w isBreakable r b × Reach w isLoop r l
 
 module _ {w : List ℕ} {r x e : ℕ} (o : PassedOver w r x e) where
   reach-over : (P : Class → Bool) → ((c : Class) → counted c ≡ false → P c ≡ false) → {y : ℕ} → Reach w P r y → Reach w P x y

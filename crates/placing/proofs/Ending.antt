@@ -32,10 +32,10 @@ module _ (w : List ℕ) (r k : ℕ) (e : k ≡ kind w r) (a : detailAllowed (kin
   pub empty-row : k ≡ 2 → class w r ≡ empty
   empty-row z = is-one (class w r) empty (sym is-empty ∙ eq-eqb k 2 z)
 
-  pub not-only-empty : (c x : ℕ) → (k ≡ 2 → ⊥) → c ≤ r → r < x → false ≡ onlyEmpty w 0 c x
-  not-only-empty c x n h l = case-of (onlyEmpty w 0 c x)
+  pub not-only-empty : (c x : ℕ) → (k ≡ 2 → ⊥) → c ≤ r → r < x → false ≡ onlyEmpty w c x
+  not-only-empty c x n h l = case-of (onlyEmpty w c x)
       (λ t.
-      let y : oneOf (empty ∷ []) (class w r) ≡ true = rw (only-empty w 0 c x t r h l) in
+      let y : oneOf (empty ∷ []) (class w r) ≡ true = rw (only-empty w c x t r h l) in
       let z = is-empty ∙ y in
       absurd (n (eqb-true k 2 z)))
       (λ f. sym f)
@@ -57,51 +57,51 @@ row-some none v e n = absurd (n e)
 
 module _ {w l : List ℕ} (f : FormedLists w l) (r : ℕ) (h : r < rowCount w) where
   -- a statement's word is its list
-  pub list-word : (v : ℕ) → isStatement (class w r) ≡ true → v ≡ getD l r 0 → v ≡ word (listOf w 0 r)
-  list-word v s e = e ∙ f .listed r h ∙ ap word (sym (statement-list (f .formed .2) 0 r h s))
+  pub list-word : (v : ℕ) → isStatement (class w r) ≡ true → v ≡ getD l r 0 → v ≡ word (listOf w r)
+  list-word v s e = e ∙ f .listed r h ∙ ap word (sym (statement-list (f .formed .2) r h s))
 
   -- which is a row before it
-  pub list-before : (c : ℕ) → listOf w 0 r ≡ some c → c < r
+  pub list-before : (c : ℕ) → listOf w r ≡ some c → c < r
   unfolding listOf
-  list-before c e = innermost-found w 0 isList r c e .before
+  list-before c e = innermost-found w isList r c e .before
 
   -- a Case's word is the Block of its switch
-  pub home-word : (u : ℕ) → isCase (class w r) ≡ true → u ≡ getD l r 0 → u ≡ word (innermost w 0 (oneOf (caseBlock ∷ [])) r)
+  pub home-word : (u : ℕ) → isCase (class w r) ≡ true → u ≡ getD l r 0 → u ≡ word (innermost w (oneOf (caseBlock ∷ [])) r)
   home-word u t e =
       let body = f .formed .2 in
       let some-row : 0 < r = elim (ℕ-discrete r 0) [
         | yes z ↦ let x : false ≡ true = rw (z, body .root-class) at t in absurd (clash (cc))
         | no n ↦ omega arith
       ] in
-      e ∙ f .listed r h ∙ ap word (sym (case-home body 0 r (body .some-rows) (omega arith, omega (arith, body .root-size)) some-row t))
+      e ∙ f .listed r h ∙ ap word (sym (case-home body r h some-row t))
 
 -- ---- what ends a Case
 module _ (w : List ℕ) (r : ℕ) where
-  no-next : nextCase w 0 r ≡ none → false ≡ endsCase w 0 r
+  no-next : nextCase w r ≡ none → false ≡ endsCase w r
   unfolding endsCase
   no-next e = rw (e, endsCase)
 
-  pub no-list : listOf w 0 r ≡ none → false ≡ endsCase w 0 r
+  pub no-list : listOf w r ≡ none → false ≡ endsCase w r
   unfolding nextCase
   no-list f = no-next (rw (f, nextCase))
 
-  module _ (c : ℕ) (f : listOf w 0 r ≡ some c) where
-    pub no-case : isCase (class w c) ≡ false → false ≡ endsCase w 0 r
+  module _ (c : ℕ) (f : listOf w r ≡ some c) where
+    pub no-case : isCase (class w c) ≡ false → false ≡ endsCase w r
     unfolding nextCase
     no-case t = no-next (rw (f, nextCase, t))
 
     module _ (t : isCase (class w c) ≡ true) where
-      pub no-home : innermost w 0 (oneOf (caseBlock ∷ [])) c ≡ none → false ≡ endsCase w 0 r
+      pub no-home : innermost w (oneOf (caseBlock ∷ [])) c ≡ none → false ≡ endsCase w r
       unfolding nextCase
       no-home g = no-next (rw (f, nextCase, t, g))
 
-      module _ (s : ℕ) (g : innermost w 0 (oneOf (caseBlock ∷ [])) c ≡ some s) where
-        pub last-case : end w s ≤ end w c → false ≡ endsCase w 0 r
+      module _ (s : ℕ) (g : innermost w (oneOf (caseBlock ∷ [])) c ≡ some s) where
+        pub last-case : end w s ≤ end w c → false ≡ endsCase w r
         unfolding nextCase
         last-case l = no-next (rw (f, nextCase, t, g, le-ltb (end w c) (end w s) l))
 
-        pub by-rest : end w c < end w s → onlyEmpty w 0 (r + 1) (end w c) ≡ endsCase w 0 r
+        pub by-rest : end w c < end w s → onlyEmpty w (r + 1) (end w c) ≡ endsCase w r
         unfolding nextCase endsCase
         by-rest l =
-            let n : nextCase w 0 r ≡ some (end w c) = rw (f, nextCase, t, g, lt-ltb (end w c) (end w s) l) in
+            let n : nextCase w r ≡ some (end w c) = rw (f, nextCase, t, g, lt-ltb (end w c) (end w s) l) in
             rw (add-one, n, endsCase, f)

@@ -14,12 +14,12 @@ use Rattle.placing.specs.Reach.{Formed}
 
 -- none of the rows before r is badly placed
 abbrev pub NoneBad : List ℕ → ℕ → Type 0
-NoneBad w r = (k : ℕ) → k < r → badlyPlaced w 0 k ≡ false
+NoneBad w r = (k : ℕ) → k < r → badlyPlaced w k ≡ false
 
 module _ (w : List ℕ) (r : ℕ) (n : NoneBad w r) where
-  pub none-more : false ≡ badlyPlaced w 0 r → NoneBad w (r + 1)
+  pub none-more : false ≡ badlyPlaced w r → NoneBad w (r + 1)
   none-more e k h = elim (ℕ-discrete k r) [ yes i ↦ rw i (sym e) | no o ↦ n k (omega arith) ]
 
-  pub none-found : Formed w → rowCount w ≤ r → placing w 0 ≡ none
+  pub none-found : Formed w → rowCount w ≤ r → placing w ≡ none
   unfolding placing
-  none-found f h = none-lowest (badlyPlaced w 0) _ (λ k l. n k (omega (arith, f .2 .root-size)))
+  none-found f h = none-lowest (badlyPlaced w) _ (λ k l. n k (omega (arith, f .2 .root-size)))

@@ -35,15 +35,15 @@ module _ (w : List ℕ) (P : Class → Bool) where
         (l .either);
   }
 
-  pub reach-found : (r e : ℕ) → Reach w P r e → ltb r e ≡ isSome (innermost w 0 P r)
+  pub reach-found : (r e : ℕ) → Reach w P r e → ltb r e ≡ isSome (innermost w P r)
   reach-found r e s = case-of (ltb r e)
       (λ t.
       let h : r < e = ltb-true r e t in
       let (k, m, u, f) = s .some (omega arith) in
-      case-found (innermost w 0 P r) (λ j g. t ∙ sym (some-is (innermost w 0 P r) j g))
-      (λ g. absurd (innermost-none w 0 P r k g (record { before = m; from = omega arith; reaches = omega arith; passes = u }))))
+      case-found (innermost w P r) (λ j g. t ∙ sym (some-is (innermost w P r) j g))
+      (λ g. absurd (innermost-none w P r k g (record { before = m; reaches = omega arith; passes = u }))))
       (λ t.
       let h = ltb-false r e t in
-      case-found (innermost w 0 P r)
-      (λ j g. let i = innermost-found w 0 P r j g in absurd (omega (arith, i .reaches, s .most j (i .before) (i .passes))))
-      (λ g. t ∙ sym (none-is (innermost w 0 P r) g)))
+      case-found (innermost w P r)
+      (λ j g. let i = innermost-found w P r j g in absurd (omega (arith, i .reaches, s .most j (i .before) (i .passes))))
+      (λ g. t ∙ sym (none-is (innermost w P r) g)))

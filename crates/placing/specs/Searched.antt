@@ -11,6 +11,6 @@ use Rattle.placing.specs.declared.Search.the-variants.{At, Nowhere, Need
 
 -- the first row badly placed, or none, or that no lists were lent
 abbrev pub Searched : List ℕ → List ℕ → Search → Type 0
-Searched w l (At r) = some r ≡ placing w 0
-Searched w l Nowhere = none ≡ placing w 0
+Searched w l (At r) = some r ≡ placing w
+Searched w l Nowhere = none ≡ placing w
 Searched w l NeedsLists = length l ≡ 0

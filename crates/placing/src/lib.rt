@@ -46,7 +46,7 @@ fn wide(number: u16) -> usize
 // Nothing but Empty from `from` on, before `end`.
 fn only_empty(rows: &[u32], from: usize, end: usize) -> bool
     requires { ⌜ Detailed (now rows) × (end ≤ rowCount (now rows)) ⌝ }
-    ensures { λ r. ⌜ r ≡ onlyEmpty (now (rows .entry)) 0 from end ⌝ }
+    ensures { λ r. ⌜ r ≡ onlyEmpty (now (rows .entry)) from end ⌝ }
 {
     let mut k = from;
     while k < end {
@@ -63,7 +63,7 @@ fn only_empty(rows: &[u32], from: usize, end: usize) -> bool
 fn ends_case(rows: &[u32], lists: &[u16], row: RowNumber) -> bool
     requires { ⌜ FormedLists (now rows) (now lists) ⌝ }
     requires { ⌜ (row .0 < rowCount (now rows)) × (isStatement (class (now rows) (row .0)) ≡ true) ⌝ }
-    ensures { λ r. ⌜ r ≡ endsCase (now (rows .entry)) 0 (row .0) ⌝ }
+    ensures { λ r. ⌜ r ≡ endsCase (now (rows .entry)) (row .0) ⌝ }
 {
     let r = row.0;
     let list = wide(lists[r]);
@@ -98,7 +98,7 @@ fn well_placed(
     requires { ⌜ Formed (now rows) × (Falls (now rows) (row .0) → FormedLists (now rows) (now lists)) ⌝ }
     requires { ⌜ (row .0 < rowCount (now rows)) × (kind (now rows) (row .0) ≡ 11) × (name (now rows) (row .0) ≡ 0) ⌝ }
     requires { ⌜ Reach (now rows) isBreakable (row .0) «break_end» × Reach (now rows) isLoop (row .0) «loop_end» ⌝ }
-    ensures { λ r. ⌜ r ≡ wellPlaced (now (rows .entry)) 0 (row .0) ⌝ }
+    ensures { λ r. ⌜ r ≡ wellPlaced (now (rows .entry)) (row .0) ⌝ }
 {
     let detail = rows::detail(rows, row);
     match detail {
@@ -120,7 +120,7 @@ fn badly_placed(
     requires { ⌜ Formed (now rows) × (Falls (now rows) (row .0) → FormedLists (now rows) (now lists)) ⌝ }
     requires { ⌜ row .0 < rowCount (now rows) ⌝ }
     requires { ⌜ Reach (now rows) isBreakable (row .0) «break_end» × Reach (now rows) isLoop (row .0) «loop_end» ⌝ }
-    ensures { λ r. ⌜ r ≡ badlyPlaced (now (rows .entry)) 0 (row .0) ⌝ }
+    ensures { λ r. ⌜ r ≡ badlyPlaced (now (rows .entry)) (row .0) ⌝ }
 {
     if rows::kind(rows, row) != 11 {
         return false;
@@ -198,7 +198,7 @@ fn first_badly_placed(rows: &[u32], lists: &[u16]) -> Search
 // The first row badly placed of a well-formed body, with each row's list.
 fn placed_by_lists(rows: &[u32]) -> Found
     requires { ⌜ Formed (now rows) ⌝ }
-    ensures { λ r. ⌜ place r ≡ placing (now (rows .entry)) 0 ⌝ }
+    ensures { λ r. ⌜ place r ≡ placing (now (rows .entry)) ⌝ }
 {
     let mut lists = [0u16; 2000];
     lists::lists_of(rows, &mut lists);
@@ -212,7 +212,7 @@ fn placed_by_lists(rows: &[u32]) -> Found
 // Whether each Branch has a label, so that none is badly placed.
 fn all_labelled(rows: &[u32]) -> bool
     requires { ⌜ Formed (now rows) ⌝ }
-    ensures { λ r. ⌜ (r ≡ true → placing (now (rows .entry)) 0 ≡ none) ⌝ }
+    ensures { λ r. ⌜ (r ≡ true → placing (now (rows .entry)) ≡ none) ⌝ }
 {
     let count = rows.len() / 5;
     let mut r = 0;
@@ -232,7 +232,7 @@ fn all_labelled(rows: &[u32]) -> bool
 // need no lists.
 pub fn placed(rows: &[u32]) -> Found
     requires { ⌜ Formed (now rows) ⌝ }
-    ensures { λ r. ⌜ place r ≡ placing (now (rows .entry)) 0 ⌝ }
+    ensures { λ r. ⌜ place r ≡ placing (now (rows .entry)) ⌝ }
 {
     if all_labelled(rows) {
         return Found::Nowhere;

@@ -9,16 +9,14 @@ use Prim.Native.Nat.{ℕ, _+_, _*_, _/_, _≤_}
 use native.Mathlib.Omega.{arith}
 use lib.ListN.{length, take, drop, replicate, length-append, length-replicate}
 use lib.Seq.{take-at}
-use Rattle.rules.specs.Rows.{end}
+use Rattle.rules.specs.Rows.{rowCount}
 use Rattle.rules.specs.Refusals.{refusal}
 use Rattle.rules.specs.Labels.{binding, sheet, bindings}
 use Rattle.rules.specs.Placing.{placing}
 use Rattle.rules.specs.Verdict.{verdict}
 use Rattle.rules.specs.Calls.{Answer, refused, answered, faultWords, tooShort, labelCall, placingCall, verdictCall}
-use Rattle.rules.proofs.Facts.{body}
 use Rattle.rules.proofs.Lent.{room as has-room}
 use Rattle.rules.proofs.Test.{clash}
-use Rattle.tables.proofs.Labelling.{body-end}
 use Rattle.branches.proofs.WalkFaults.{words-length}
 use Rattle.branches.proofs.WalkBindings.{each-length}
 use Rattle.marking.specs.Marks.{marksCall}
@@ -53,14 +51,14 @@ module _ (w p b : List ℕ) where
   text-refused r e = rw (e, bodyText)
 
   text-marked : refusal w p b ≡ none
-      → sheetText (sheet w p b 0) ++ bindsText (bindings w p b 0) ++ placedText (placing w 0) ++ verdictText (verdict w p b 0) ≡ bodyText w p b
+      → sheetText (sheet w p b) ++ bindsText (bindings w p b) ++ placedText (placing w) ++ verdictText (verdict w p b) ≡ bodyText w p b
   unfolding bodyText
   text-marked e = rw (e, bodyText)
 
   -- a word a row
-  bindings-length : refusal w p b ≡ none → length (bindings w p b 0) ≡ length w / 5
+  bindings-length : refusal w p b ≡ none → length (bindings w p b) ≡ length w / 5
   unfolding bindings
-  bindings-length e = each-length (binding w p b 0) (end w 0) ∙ body-end (body w p b e)
+  bindings-length e = each-length (binding w p b) (rowCount w)
 
   -- ---- the call
   module _ (s t : List ℕ) where
@@ -69,15 +67,15 @@ module _ (w p b : List ℕ) where
     call-refused r e = rw (marksCall, labelCall, e)
 
     module _ (e : refusal w p b ≡ none) (room : tooShort w s t ≡ false) where
-      call-answered : marksCall w p b s t ≡ answered (length (sheet w p b 0), placing w 0, verdict w p b 0)
+      call-answered : marksCall w p b s t ≡ answered (length (sheet w p b), placing w, verdict w p b)
       unfolding marksCall labelCall placingCall verdictCall
       call-answered = rw (marksCall, labelCall, placingCall, verdictCall, e, room)
 
-      call-sheet : labelCall w p b s t .sheet-words ≡ faultWords (sheet w p b 0) ++ drop (length (faultWords (sheet w p b 0))) s
+      call-sheet : labelCall w p b s t .sheet-words ≡ faultWords (sheet w p b) ++ drop (length (faultWords (sheet w p b))) s
       unfolding labelCall
       call-sheet = rw (labelCall, e, room)
 
-      call-bindings : labelCall w p b s t .binding-words ≡ bindings w p b 0 ++ drop (length (bindings w p b 0)) t
+      call-bindings : labelCall w p b s t .binding-words ≡ bindings w p b ++ drop (length (bindings w p b)) t
       unfolding labelCall
       call-bindings = rw (labelCall, e, room)
 
@@ -100,29 +98,29 @@ module _ (w p b : List ℕ) where
         pub accepted : refusal w p b ≡ none
         accepted = none-refused (refusal w p b) refl
 
-        same : _≡_ {A = ℕ × Option ℕ × Bool} (n, o, v) (length (sheet w p b 0), placing w 0, verdict w p b 0)
+        same : _≡_ {A = ℕ × Option ℕ × Bool} (n, o, v) (length (sheet w p b), placing w, verdict w p b)
         same = ap value (e ∙ call-answered accepted room)
 
-        pub count-is : n ≡ length (sheet w p b 0)
+        pub count-is : n ≡ length (sheet w p b)
         count-is = ap (λ (x : ℕ × Option ℕ × Bool). x .0) same
 
         module _ (s′ t′ : List ℕ) (f : s′ ≡ labelCall w p b s t .sheet-words) (g : t′ ≡ labelCall w p b s t .binding-words) where
-          sheet-is : sheetLines s′ n ≡ sheetText (sheet w p b 0)
+          sheet-is : sheetLines s′ n ≡ sheetText (sheet w p b)
           sheet-is =
               ap (λ (l : List ℕ). sheetLines l n) (f ∙ call-sheet accepted room)
-              ∙ ap (sheetLines (faultWords (sheet w p b 0) ++ drop (length (faultWords (sheet w p b 0))) s)) count-is
-              ∙ sheet-lines (sheet w p b 0) (drop (length (faultWords (sheet w p b 0))) s)
+              ∙ ap (sheetLines (faultWords (sheet w p b) ++ drop (length (faultWords (sheet w p b))) s)) count-is
+              ∙ sheet-lines (sheet w p b) (drop (length (faultWords (sheet w p b))) s)
 
-          bindings-are : take (length w / 5) t′ ≡ bindings w p b 0
+          bindings-are : take (length w / 5) t′ ≡ bindings w p b
           bindings-are =
               ap (take (length w / 5)) (g ∙ call-bindings accepted room)
-              ∙ take-at (bindings w p b 0) (drop (length (bindings w p b 0)) t) (length w / 5) (bindings-length accepted)
+              ∙ take-at (bindings w p b) (drop (length (bindings w p b)) t) (length w / 5) (bindings-length accepted)
 
           pub marked-text : sheetLines s′ n ++ bindsText (take (length w / 5) t′) ++ placedText o ++ verdictText v ≡ bodyText w p b
           marked-text =
               ap (λ (l : List ℕ). l ++ bindsText (take (length w / 5) t′) ++ placedText o ++ verdictText v) sheet-is
-              ∙ ap (λ (l : List ℕ). sheetText (sheet w p b 0) ++ bindsText l ++ placedText o ++ verdictText v) bindings-are
-              ∙ ap (λ (x : ℕ × Option ℕ × Bool). sheetText (sheet w p b 0) ++ bindsText (bindings w p b 0) ++ placedText (x .1) ++ verdictText (x .2)) same
+              ∙ ap (λ (l : List ℕ). sheetText (sheet w p b) ++ bindsText l ++ placedText o ++ verdictText v) bindings-are
+              ∙ ap (λ (x : ℕ × Option ℕ × Bool). sheetText (sheet w p b) ++ bindsText (bindings w p b) ++ placedText (x .1) ++ verdictText (x .2)) same
               ∙ text-marked accepted
 
           -- the lent words hold the sheet
@@ -130,9 +128,9 @@ module _ (w p b : List ℕ) where
           marked-room = omega (
             arith,
             count-is,
-            words-length (sheet w p b 0),
+            words-length (sheet w p b),
             ap length (f ∙ call-sheet accepted room),
-            length-append (faultWords (sheet w p b 0)) (drop (length (faultWords (sheet w p b 0))) s),
+            length-append (faultWords (sheet w p b)) (drop (length (faultWords (sheet w p b))) s),
           )
 
 -- ---- lent words that are 0, with room for 2,000 rows

@@ -84,7 +84,7 @@ verdictText false = verdictNo
 unfoldable pub bodyText : List ℕ → List ℕ → List ℕ → List ℕ
 bodyText w p b = elim (refusal w p b) [
   | some r ↦ refusedText (r .0) (r .1)
-  | none ↦ sheetText (sheet w p b 0) ++ bindsText (bindings w p b 0) ++ placedText (placing w 0) ++ verdictText (verdict w p b 0)
+  | none ↦ sheetText (sheet w p b) ++ bindsText (bindings w p b) ++ placedText (placing w) ++ verdictText (verdict w p b)
 ]
 
 -- of the file f

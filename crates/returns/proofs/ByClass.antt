@@ -44,7 +44,7 @@ use Rattle.returns.proofs.Enough.{enough}
 
 -- every clause from c on, before e, is terminating
 unfoldable pub clausesEnd : List ℕ → List ℕ → List ℕ → ℕ → ℕ → Bool
-clausesEnd w p b e c = terminatingClauses w p b 0 (suc ((e - c) + (e - c))) e c
+clausesEnd w p b e c = terminatingClauses w p b (suc ((e - c) + (e - c))) e c
 
 -- a switch is as a Select that has a default
 switch-or-select : (c : Class) → opens c ≡ true → (isSwitch c ≡ true) ⊎ (c ≡ select)
@@ -64,42 +64,42 @@ never-always c t = not-true (isAlways c) (class-rule isNever (λ c. not (isAlway
 
 module _ {w p b : List ℕ} (body : Body w p b) where
   -- ---- any number of steps that is enough
-  at-row : (f r : ℕ) → r < rowCount w → 2 * size w r ≤ f → terminating w p b 0 f r ≡ isTerminating w p b r
+  at-row : (f r : ℕ) → r < rowCount w → 2 * size w r ≤ f → terminating w p b f r ≡ isTerminating w p b r
   unfolding isTerminating
-  at-row f r h x = enough body 0 f .row (suc (size w r + size w r)) r h x (omega arith)
+  at-row f r h x = enough body f .row (suc (size w r + size w r)) r h x (omega arith)
 
-  at-list : (f e c : ℕ) → Closed w c e → 2 * (e - c) + 1 ≤ f → terminatingList w p b 0 f e c ≡ isTerminatingList w p b e c
+  at-list : (f e c : ℕ) → Closed w c e → 2 * (e - c) + 1 ≤ f → terminatingList w p b f e c ≡ isTerminatingList w p b e c
   unfolding isTerminatingList
-  at-list f e c a x = enough body 0 f .list (suc ((e - c) + (e - c))) e c a x (omega arith)
+  at-list f e c a x = enough body f .list (suc ((e - c) + (e - c))) e c a x (omega arith)
 
-  at-clauses : (f e c : ℕ) → Closed w c e → 2 * (e - c) + 1 ≤ f → terminatingClauses w p b 0 f e c ≡ clausesEnd w p b e c
+  at-clauses : (f e c : ℕ) → Closed w c e → 2 * (e - c) + 1 ≤ f → terminatingClauses w p b f e c ≡ clausesEnd w p b e c
   unfolding clausesEnd
-  at-clauses f e c a x = enough body 0 f .clauses (suc ((e - c) + (e - c))) e c a x (omega arith)
+  at-clauses f e c a x = enough body f .clauses (suc ((e - c) + (e - c))) e c a x (omega arith)
 
   -- ---- a row
   module _ (r : ℕ) (h : r < rowCount w) where
     -- with a step taken
-    taken : (f : ℕ) → 2 * size w r ≤ suc f → isTerminating w p b r ≡ terminating w p b 0 (suc f) r
+    taken : (f : ℕ) → 2 * size w r ≤ suc f → isTerminating w p b r ≡ terminating w p b (suc f) r
     taken f x = sym (at-row (suc f) r h x)
 
     pub row-settled : isNever (class w r) || isAlways (class w r) ≡ true → isTerminating w p b r ≡ isAlways (class w r)
     row-settled t = let s = size w r in let x : 2 * s ≤ suc (2 * s) = omega arith in ⊎-elim
-        (λ n. taken (2 * s) x ∙ terminating-never w p b 0 (suc (2 * s)) r n ∙ sym (never-always (class w r) n))
-        (λ a. taken (2 * s) x ∙ terminating-always w p b 0 (2 * s) r a ∙ sym a)
+        (λ n. taken (2 * s) x ∙ terminating-never w p b (suc (2 * s)) r n ∙ sym (never-always (class w r) n))
+        (λ a. taken (2 * s) x ∙ terminating-always w p b (2 * s) r a ∙ sym a)
         (or-true (isNever (class w r)) (isAlways (class w r)) t)
 
     pub row-list : isList (class w r) ≡ true → isTerminating w p b r ≡ isTerminatingList w p b (end w r) (suc r)
     row-list t =
         let n = body .sized .some-rows r h in
         let s = size w r + size w r in
-        taken s (omega arith) ∙ terminating-statements w p b 0 s r t ∙ at-list s (end w r) (suc r) (closed-below body r h) (omega arith)
+        taken s (omega arith) ∙ terminating-statements w p b s r t ∙ at-list s (end w r) (suc r) (closed-below body r h) (omega arith)
 
     pub row-labeled : class w r ≡ labeled → isTerminating w p b r ≡ isTerminating w p b (suc r)
     row-labeled e =
         let s = size w r + size w r in
         let (l, q) = body .one-statement r h (rw e) in
         let m = body .sized .within r h in
-        taken s (omega arith) ∙ terminating-labeled w p b 0 s r e ∙ at-row s (suc r) (omega arith) (omega arith)
+        taken s (omega arith) ∙ terminating-labeled w p b s r e ∙ at-row s (suc r) (omega arith) (omega arith)
 
     pub row-ifElse : class w r ≡ ifElse → isTerminating w p b r ≡ (isTerminating w p b (suc r) && isTerminating w p b (end w (suc r)))
     row-ifElse e =
@@ -109,14 +109,14 @@ module _ {w p b : List ℕ} (body : Body w p b) where
         let n = body .sized .some-rows (suc r) (omega arith) in
         let first = at-row s (suc r) (omega arith) (omega arith) in
         let second = at-row s (end w (suc r)) (omega arith) (omega arith) in
-        taken s (omega arith) ∙ terminating-ifElse w p b 0 s r e ∙ rw (first, second)
+        taken s (omega arith) ∙ terminating-ifElse w p b s r e ∙ rw (first, second)
 
-    pub row-for : class w r ≡ for → isTerminating w p b r ≡ not (hasBreak w p b 0 r)
-    row-for e = let s = size w r + size w r in taken s (omega arith) ∙ terminating-for w p b 0 s r e
+    pub row-for : class w r ≡ for → isTerminating w p b r ≡ not (hasBreak w p b r)
+    row-for e = let s = size w r + size w r in taken s (omega arith) ∙ terminating-for w p b s r e
 
     -- a switch or Select, by its clauses: a switch needs a default
     pub row-opens : opens (class w r) ≡ true
-        → isTerminating w p b r ≡ (((isClass w select r || hasDefault w r) && not (hasBreak w p b 0 r)) && clausesEnd w p b (end w r) (suc (suc r)))
+        → isTerminating w p b r ≡ (((isClass w select r || hasDefault w r) && not (hasBreak w p b r)) && clausesEnd w p b (end w r) (suc (suc r)))
     row-opens t =
         let s = size w r + size w r in
         let (l, q) = body .one-block r h (opens-holds (class w r) t) in
@@ -125,43 +125,43 @@ module _ {w p b : List ℕ} (body : Body w p b) where
         let f : ℕ = s - 1 in
         let z : s ≡ suc f = omega arith in
         let k = opens-block (class w r) (class w (suc r)) t (body .child-fits r (suc r) h (here l)) in
-        let inner : terminating w p b 0 s (suc r) ≡ clausesEnd w p b (end w r) (suc (suc r)) =
-        ap (λ (x : ℕ). terminating w p b 0 x (suc r)) z ∙ terminating-clauses w p b 0 f (suc r) k
+        let inner : terminating w p b s (suc r) ≡ clausesEnd w p b (end w r) (suc (suc r)) =
+        ap (λ (x : ℕ). terminating w p b x (suc r)) z ∙ terminating-clauses w p b f (suc r) k
         ∙ at-clauses f (end w (suc r)) (suc (suc r)) (closed-below body (suc r) n) (omega arith)
         ∙ ap (λ (x : ℕ). clausesEnd w p b x (suc (suc r))) q in
         taken s (omega arith) ∙ ⊎-elim
-        (λ u. terminating-switch w p b 0 s r u ∙ rw (inner, switch-no-select (class w r) u))
-        (λ e. terminating-select w p b 0 s r e ∙ rw (inner, e))
+        (λ u. terminating-switch w p b s r u ∙ rw (inner, switch-no-select (class w r) u))
+        (λ e. terminating-select w p b s r e ∙ rw (inner, e))
         (switch-or-select (class w r) t)
 
   -- ---- a list
-  pub list-empty : (e c : ℕ) → Closed w c e → onlyEmpty w 0 c e ≡ true → isTerminatingList w p b e c ≡ false
+  pub list-empty : (e c : ℕ) → Closed w c e → onlyEmpty w c e ≡ true → isTerminatingList w p b e c ≡ false
   list-empty e c a t = elim (decLt c e) [
-    | no n ↦ sym (at-list _ e c a (omega arith)) ∙ list-none w p b 0 (suc (2 * (e - c))) e c (omega arith)
+    | no n ↦ sym (at-list _ e c a (omega arith)) ∙ list-none w p b (suc (2 * (e - c))) e c (omega arith)
     | yes l ↦
         let f : ℕ = 2 * (e - c) in
-        let i = only-empty w 0 c e t in
-        let rest = all-empty w 0 (end w c) e (λ k m n. i k (omega arith) n) in
+        let i = only-empty w c e t in
+        let rest = all-empty w (end w c) e (λ k m n. i k (omega arith) n) in
         let only : class w c ≡ empty = i c (omega arith) l in
-        sym (at-list (suc f) e c a (omega arith)) ∙ list-last w p b 0 f e c l rest ∙ terminating-never w p b 0 f c (rw only)
+        sym (at-list (suc f) e c a (omega arith)) ∙ list-last w p b f e c l rest ∙ terminating-never w p b f c (rw only)
   ]
 
   -- the item s is the last that is no Empty
-  module _ {e s : ℕ} (full : class w s ≡ empty → ⊥) (rest : onlyEmpty w 0 (end w s) e ≡ true) where
+  module _ {e s : ℕ} (full : class w s ≡ empty → ⊥) (rest : onlyEmpty w (end w s) e ≡ true) where
     list-by-item : {c : ℕ} → Closed w c e → Item w e c s → isTerminatingList w p b e c ≡ isTerminating w p b s
     list-by-item {c} a (here l) =
         let f : ℕ = 2 * (e - c) in
         let h : c < rowCount w = omega (arith, a .within) in
         let n = closed-rest body a l .order in
-        sym (at-list (suc f) e c a (omega arith)) ∙ list-last w p b 0 f e c l rest ∙ at-row f c h (omega arith)
+        sym (at-list (suc f) e c a (omega arith)) ∙ list-last w p b f e c l rest ∙ at-row f c h (omega arith)
     list-by-item {c} a (later l i) =
         let f : ℕ = 2 * (e - c) in
         let h : c < rowCount w = omega (arith, a .within) in
         let n = body .sized .some-rows c h in
         let m = closed-rest body a l in
-        let more : onlyEmpty w 0 (end w c) e ≡ false =
-        case-of (onlyEmpty w 0 (end w c) e) (λ t. absurd (full (only-empty w 0 (end w c) e t s (item-from i) (item-before i)))) (λ t. t) in
-        sym (at-list (suc f) e c a (omega arith)) ∙ list-more w p b 0 f e c l more ∙ at-list f e (end w c) m (omega arith) ∙ list-by-item m i
+        let more : onlyEmpty w (end w c) e ≡ false =
+        case-of (onlyEmpty w (end w c) e) (λ t. absurd (full (only-empty w (end w c) e t s (item-from i) (item-before i)))) (λ t. t) in
+        sym (at-list (suc f) e c a (omega arith)) ∙ list-more w p b f e c l more ∙ at-list f e (end w c) m (omega arith) ∙ list-by-item m i
 
   pub last-answer : {c e s : ℕ} → Closed w c e → Last w c e s → {t : Bool} → t ≡ isTerminating w p b s → t ≡ isTerminatingList w p b e c
   last-answer a l q = q ∙ sym (list-by-item (l .no-empty) (l .rest) a (l .item))
@@ -169,7 +169,7 @@ module _ {w p b : List ℕ} (body : Body w p b) where
   -- ---- the clauses
   pub clauses-ended : (e c : ℕ) → e ≤ c → clausesEnd w p b e c ≡ true
   unfolding clausesEnd
-  clauses-ended e c l = clauses-none w p b 0 ((e - c) + (e - c)) e c l
+  clauses-ended e c l = clauses-none w p b ((e - c) + (e - c)) e c l
 
   pub clauses-next : (e c : ℕ) → Closed w c e → c < e → isList (class w c) ≡ true
       → clausesEnd w p b e c ≡ (isTerminatingList w p b (end w c) (suc c) && clausesEnd w p b e (end w c))
@@ -179,5 +179,5 @@ module _ {w p b : List ℕ} (body : Body w p b) where
       let n = body .sized .some-rows c h in
       let m = closed-rest body a l in
       let o = m .order in
-      sym (at-clauses (suc f) e c a (omega arith)) ∙ clauses-more w p b 0 f e c l
+      sym (at-clauses (suc f) e c a (omega arith)) ∙ clauses-more w p b f e c l
       ∙ rw (at-row f c h (omega arith), row-list c h t, at-clauses f e (end w c) m (omega arith))

@@ -118,7 +118,7 @@ module _ {w p b : List ℕ} (body : Body w p b) where
         let (m, q, k) = fill in
         child-rule isClauseBlock isClause refl (class w (suc r)) (class w c) k (body .child-fits (suc r) c m (rw q i))
 
-    break-below : hasBreak w p b 0 r ≡ anyLeaves w p b (suc (suc r)) (end w r) (labelNumber w r) true
+    break-below : hasBreak w p b r ≡ anyLeaves w p b (suc (suc r)) (end w r) (labelNumber w r) true
     unfolding every lowest
     break-below =
         let (m, q, k) = fill in

@@ -39,45 +39,45 @@ label-row w (suc t) n = case-of (isClass w labeled t) (λ y. (t, refl, is-one (c
 
 module _ {w p b : List ℕ} (body : Body w p b) (s : ℕ) (row : s < rowCount w) (breakable : isBreakable (class w s) ≡ true) where
   -- ---- a break that refers to s leaves what stands below it
-  referring-leaves : (g : ℕ) → class w g ≡ break → refersTo w p b 0 g s ≡ true → Leaves w p b (suc s) (labelNumber w s) true g
+  referring-leaves : (g : ℕ) → class w g ≡ break → refersTo w p b g s ≡ true → Leaves w p b (suc s) (labelNumber w s) true g
   referring-leaves g e t = elim (decLt 0 (name w g)) [
     | yes n ↦
-        let (q, i, l, u) = on-label w p b 0 g s (label-refers w p b 0 g s t n) in
+        let (q, i, l, u) = on-label w p b g s (label-refers w p b g s t n) in
         let z : name w q ≡ labelNumber w s = sym (ap (labelNumber w) i ∙ label-on w q l) in
         let o = labeled-named body q (omega arith) l in
         labelled e n (omega arith) (rw (← z) (same-sym w p b q g u))
     | no n ↦
         let o : name w g ≡ 0 = omega arith in
-        let i = innermost-refers w p b 0 g s t o in
-        plain e o refl (λ k h l u m. innermost-last w 0 isBreakable g s k i h (record { before = l; from = omega arith; reaches = m; passes = u }))
+        let i = innermost-refers w p b g s t o in
+        plain e o refl (λ k h l u m. innermost-last w isBreakable g s k i h (record { before = l; reaches = m; passes = u }))
   ]
 
   -- ---- and one that leaves it refers to s
-  leaving-refers : (g : ℕ) → s < g → g < end w s → Leaves w p b (suc s) (labelNumber w s) true g → refersTo w p b 0 g s ≡ true
-  leaving-refers g h l (plain e n i x) = refers-innermost w p b 0 g s n (case-found (innermost w 0 isBreakable g)
+  leaving-refers : (g : ℕ) → s < g → g < end w s → Leaves w p b (suc s) (labelNumber w s) true g → refersTo w p b g s ≡ true
+  leaving-refers g h l (plain e n i x) = refers-innermost w p b g s n (case-found (innermost w isBreakable g)
       (λ k f. elim (decLt k s) [
-        | yes m ↦ absurd (innermost-last w 0 isBreakable g k s f m around)
+        | yes m ↦ absurd (innermost-last w isBreakable g k s f m around)
         | no m ↦ elim (ℕ-discrete k s) [
           | yes q ↦ rw (← q) f
-          | no o ↦ let j = innermost-found w 0 isBreakable g k f in absurd (x k (omega arith) (j .before) (j .passes) (j .reaches))
+          | no o ↦ let j = innermost-found w isBreakable g k f in absurd (x k (omega arith) (j .before) (j .passes) (j .reaches))
         ]
       ])
-      (λ f. absurd (innermost-none w 0 isBreakable g s f around)))
+      (λ f. absurd (innermost-none w isBreakable g s f around)))
     where
-      around : Innermost w 0 isBreakable g s
-      around = record { before = h; from = omega arith; reaches = l; passes = breakable }
+      around : Innermost w isBreakable g s
+      around = record { before = h; reaches = l; passes = breakable }
   leaving-refers g h l (labelled e n m u) =
       let (t, i, c) = label-row w s m in
       let z : labelNumber w s ≡ name w t = ap (labelNumber w) i ∙ label-on w t c in
-      let y = on-label-row w p b 0 g t (omega arith) c (same-sym w p b g t (rw z at u)) in
-      refers-labelled w p b 0 g s n (record { before = h; from = omega arith; reaches = l; passes = breakable }) (rw i y)
+      let y = on-label-row w p b g t c (same-sym w p b g t (rw z at u)) in
+      refers-labelled w p b g s n (record { before = h; reaches = l; passes = breakable }) (rw i y)
 
-  pub has-break-below : hasBreak w p b 0 s ≡ anyLeaves w p b (suc s) (end w s) (labelNumber w s) true
+  pub has-break-below : hasBreak w p b s ≡ anyLeaves w p b (suc s) (end w s) (labelNumber w s) true
   has-break-below = both _ _
       (λ t.
-      let (g, l, e, u) = some-break w p b 0 s t in
-      let i = refers-inside w p b 0 g s u in
+      let (g, l, e, u) = some-break w p b s t in
+      let i = refers-inside w p b g s u in
       some-is w p b (suc s) (end w s) (labelNumber w s) true (g, i .before, l, referring-leaves g e u))
       (λ t.
       let (g, h, l, x) = is-some w p b (suc s) (end w s) (labelNumber w s) true t in
-      case-of (hasBreak w p b 0 s) (λ y. y) (λ n. absurd (no-break w p b 0 s g n l (is-break w p b x) (leaving-refers g h l x))))
+      case-of (hasBreak w p b s) (λ y. y) (λ n. absurd (no-break w p b s g n l (is-break w p b x) (leaving-refers g h l x))))

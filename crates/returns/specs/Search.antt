@@ -41,21 +41,21 @@ UnlessEmpty w c found r = (kind w c ≡ 2 → r ≡ found) × ((kind w c ≡ 2 �
 pub record Last (w : List ℕ) (c e s : ℕ) : Type 0 where
   pub item : Item w e c s
   pub no-empty : class w s ≡ empty → ⊥
-  pub rest : onlyEmpty w 0 (end w s) e ≡ true
+  pub rest : onlyEmpty w (end w s) e ≡ true
 
 -- the last item that is no Empty is found, or there is none
 abbrev pub Lasts : List ℕ → ℕ → ℕ → Found → Type 0
 Lasts w c e (At s) = Last w c e s
-Lasts w c e Nowhere = onlyEmpty w 0 c e ≡ true
+Lasts w c e Nowhere = onlyEmpty w c e ≡ true
 
 module _ (w p b : List ℕ) where
   -- the statement r is terminating
   unfoldable pub isTerminating : ℕ → Bool
-  isTerminating r = terminating w p b 0 (suc (size w r + size w r)) r
+  isTerminating r = terminating w p b (suc (size w r + size w r)) r
 
   -- of the items from c on, before e, the last non-Empty one is terminating
   unfoldable pub isTerminatingList : ℕ → ℕ → Bool
-  isTerminatingList e c = terminatingList w p b 0 (suc ((e - c) + (e - c))) e c
+  isTerminatingList e c = terminatingList w p b (suc ((e - c) + (e - c))) e c
 
   -- no statement of kinds 15, 16, 18, 19, 20 from row c on is around row g
   unfoldable pub exposed : ℕ → ℕ → Bool

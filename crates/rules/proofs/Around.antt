@@ -20,46 +20,44 @@ use Rattle.rules.proofs.Scan.{lowest-none, none-lowest, highest-found, 
 abbrev pub AllEmpty : List ℕ → ℕ → ℕ → Type 0
 AllEmpty w c e = (k : ℕ) → c ≤ k → k < e → class w k ≡ empty
 
-module _ (w : List ℕ) (root : ℕ) where
+module _ (w : List ℕ) where
   -- ---- around
-  pub around-true : (r k : ℕ) → around w root r k ≡ true → (root ≤ k) × (r < end w k)
-  around-true r k t = let a = and-true (leb root k) (ltb r (end w k)) t in (leb-true root k (a .0), ltb-true r (end w k) (a .1))
+  pub around-true : (r k : ℕ) → around w r k ≡ true → r < end w k
+  around-true r k t = ltb-true r (end w k) t
 
-  pub true-around : (r k : ℕ) → root ≤ k → r < end w k → around w root r k ≡ true
-  true-around r k h l = true-and (leb root k) (ltb r (end w k)) (le-leb root k h) (lt-ltb r (end w k) l)
+  pub true-around : (r k : ℕ) → r < end w k → around w r k ≡ true
+  true-around r k l = lt-ltb r (end w k) l
 
   -- ---- the innermost of a class
   pub record Innermost (P : Class → Bool) (r k : ℕ) : Type 0 where
     pub before : k < r
-    pub from : root ≤ k
     pub reaches : r < end w k
     pub passes : P (class w k) ≡ true
 
-  pub innermost-found : (P : Class → Bool) (r k : ℕ) → innermost w root P r ≡ some k → Innermost P r k
+  pub innermost-found : (P : Class → Bool) (r k : ℕ) → innermost w P r ≡ some k → Innermost P r k
   unfolding innermost
   innermost-found P r k e =
-      let f = highest-found (λ k. around w root r k && P (class w k)) r k e in
-      let a = and-true (around w root r k) (P (class w k)) (f .1) in
-      let s = around-true r k (a .0) in
-      record { before = f .0; from = s .0; reaches = s .1; passes = a .1 }
+      let f = highest-found (λ k. around w r k && P (class w k)) r k e in
+      let a = and-true (around w r k) (P (class w k)) (f .1) in
+      record { before = f .0; reaches = around-true r k (a .0); passes = a .1 }
 
   -- a row further in of that class does not reach past r
-  pub innermost-last : (P : Class → Bool) (r k q : ℕ) → innermost w root P r ≡ some k → k < q → Innermost P r q → ⊥
+  pub innermost-last : (P : Class → Bool) (r k q : ℕ) → innermost w P r ≡ some k → k < q → Innermost P r q → ⊥
   unfolding innermost
   innermost-last P r k q e l i =
-      let f = highest-last (λ k. around w root r k && P (class w k)) r k q e l (i .before) in
-      let t = true-and (around w root r q) (P (class w q)) (true-around r q (i .from) (i .reaches)) (i .passes) in
+      let f = highest-last (λ k. around w r k && P (class w k)) r k q e l (i .before) in
+      let t = true-and (around w r q) (P (class w q)) (true-around r q (i .reaches)) (i .passes) in
       clash (cc)
 
-  pub innermost-none : (P : Class → Bool) (r q : ℕ) → innermost w root P r ≡ none → Innermost P r q → ⊥
+  pub innermost-none : (P : Class → Bool) (r q : ℕ) → innermost w P r ≡ none → Innermost P r q → ⊥
   unfolding innermost
   innermost-none P r q e i =
-      let f = highest-none (λ k. around w root r k && P (class w k)) r q e (i .before) in
-      let t = true-and (around w root r q) (P (class w q)) (true-around r q (i .from) (i .reaches)) (i .passes) in
+      let f = highest-none (λ k. around w r k && P (class w k)) r q e (i .before) in
+      let t = true-and (around w r q) (P (class w q)) (true-around r q (i .reaches)) (i .passes) in
       clash (cc)
 
   -- ---- nothing but Empty
-  pub only-empty : (c e : ℕ) → onlyEmpty w root c e ≡ true → AllEmpty w c e
+  pub only-empty : (c e : ℕ) → onlyEmpty w c e ≡ true → AllEmpty w c e
   unfolding onlyEmpty
   only-empty c e t k h l = case-found (lowest (λ k. leb c k && not (oneOf (empty ∷ []) (class w k))) e)
       (λ j f. let z : false ≡ true = rw (f, onlyEmpty) at t in absurd (clash (cc)))
@@ -67,7 +65,7 @@ module _ (w : List ℕ) (root : ℕ) where
       let n = lowest-none (λ k. leb c k && not (oneOf (empty ∷ []) (class w k))) e k f l in
       is-one (class w k) empty (not-false (oneOf (empty ∷ []) (class w k)) (rw (le-leb c k h) at n)))
 
-  pub all-empty : (c e : ℕ) → AllEmpty w c e → onlyEmpty w root c e ≡ true
+  pub all-empty : (c e : ℕ) → AllEmpty w c e → onlyEmpty w c e ≡ true
   unfolding onlyEmpty
   all-empty c e a = rw (none-lowest (λ k. leb c k && not (oneOf (empty ∷ []) (class w k))) e none-passes, onlyEmpty)
     where
@@ -78,17 +76,17 @@ module _ (w : List ℕ) (root : ℕ) where
   pub record NextCase (r n : ℕ) : Type 0 where
     pub clause : ℕ
     pub home : ℕ
-    pub listed : listOf w root r ≡ some clause
+    pub listed : listOf w r ≡ some clause
     pub case-row : isCase (class w clause) ≡ true
-    pub homed : innermost w root (oneOf (caseBlock ∷ [])) clause ≡ some home
+    pub homed : innermost w (oneOf (caseBlock ∷ [])) clause ≡ some home
     pub more : end w clause < end w home
     pub next : n ≡ end w clause
 
-  pub next-case : (r n : ℕ) → nextCase w root r ≡ some n → NextCase r n
+  pub next-case : (r n : ℕ) → nextCase w r ≡ some n → NextCase r n
   unfolding nextCase
-  next-case r n e = case-found (listOf w root r)
+  next-case r n e = case-found (listOf w r)
       (λ c f. case-of (isCase (class w c))
-      (λ t. case-found (innermost w root (oneOf (caseBlock ∷ [])) c)
+      (λ t. case-found (innermost w (oneOf (caseBlock ∷ [])) c)
       (λ s g. case-of (ltb (end w c) (end w s))
       (λ l.
       let i : some (end w c) ≡ some n = rw (f, nextCase, t, g, l) at e in

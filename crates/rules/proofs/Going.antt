@@ -1,4 +1,4 @@
--- Going on, by the parent of a row: past the root the closing brace, past a loop's body the loop, in a list the next item or past the list,
+-- Going on, by the parent of a row: past row 0 the closing brace, past a loop's body the loop, in a list the next item or past the list,
 -- else past the parent.
 -- The scan upward comes to the parent first, since no row between reaches past the row. And the clauses by number. Nobody else opens these definitions.
 -- Assumes nothing.
@@ -8,7 +8,7 @@ use mathlib.Core.List.{List}
 use Prim.Native.Nat.{ℕ, zero, suc, _≤_, _<_}
 use native.Mathlib.Omega.{arith}
 use native.Mathlib.Decide.{ℕ-discrete, decLt}
-use borrow.Author.Tests.{lt-ltb, le-ltb, lt-leb}
+use borrow.Author.Tests.{lt-ltb, le-ltb}
 use Rattle.rules.specs.Rows.{rowCount, size, end, Item, here, later, Child}
 use Rattle.rules.specs.Class.{isLoop, class}
 use Rattle.rules.specs.Scope.{isList, around}
@@ -70,14 +70,14 @@ module _ (w : List ℕ) where
   pub default-clause : (r : ℕ) → hasDefault w r ≡ true → 0 < clauseCount w r
   default-clause r t = rw clause-count (default-counts (size w r) (end w r) (suc (suc r)) (rw has-default at t))
 
-module _ (w : List ℕ) (root : ℕ) where
+module _ (w : List ℕ) where
   -- ---- the scan upward
-  climb-past : (k s : ℕ) → around w root s k ≡ false → climb w root (suc k) s ≡ climb w root k s
+  climb-past : (k s : ℕ) → around w s k ≡ false → climb w (suc k) s ≡ climb w k s
   unfolding climb
   climb-past k s f = rw (f, climb)
 
   -- down to the closest row around s
-  climb-to : (n k s : ℕ) → k < n → ((q : ℕ) → k < q → q < n → around w root s q ≡ false) → climb w root n s ≡ climb w root (suc k) s
+  climb-to : (n k s : ℕ) → k < n → ((q : ℕ) → k < q → q < n → around w s q ≡ false) → climb w n s ≡ climb w (suc k) s
   climb-to zero k s l z = absurd (omega arith)
   climb-to (suc n) k s l z = elim (ℕ-discrete k n) [
     | yes e ↦ rw e
@@ -85,57 +85,57 @@ module _ (w : List ℕ) (root : ℕ) where
   ]
 
   -- or to none
-  climb-out : (n s : ℕ) → ((q : ℕ) → q < n → around w root s q ≡ false) → climb w root n s ≡ brace
+  climb-out : (n s : ℕ) → ((q : ℕ) → q < n → around w s q ≡ false) → climb w n s ≡ brace
   unfolding climb
   climb-out zero s z = refl
   climb-out (suc n) s z = rw (z n (omega arith), climb) (climb-out n s (λ q l. z q (omega arith)))
 
-  pub after-root : after w root root ≡ brace
+  pub after-root : after w 0 ≡ brace
   unfolding after
-  after-root = climb-out root root (λ q l. rw (lt-leb root q l))
+  after-root = climb-out 0 0 (λ q l. absurd (omega arith))
 
   -- where k is the closest row around s
-  found-around : (k s : ℕ) → around w root s k ≡ true → isLoop (class w k) ≡ true → climb w root (suc k) s ≡ at k
+  found-around : (k s : ℕ) → around w s k ≡ true → isLoop (class w k) ≡ true → climb w (suc k) s ≡ at k
   unfolding climb
   found-around k s a t = rw (a, climb, t)
 
-  found-next : (k s : ℕ) → around w root s k ≡ true → isLoop (class w k) ≡ false → isList (class w k) ≡ true → end w s < end w k
-      → climb w root (suc k) s ≡ at (end w s)
+  found-next : (k s : ℕ) → around w s k ≡ true → isLoop (class w k) ≡ false → isList (class w k) ≡ true → end w s < end w k
+      → climb w (suc k) s ≡ at (end w s)
   unfolding climb
   found-next k s a t u l = rw (a, climb, t, u, lt-ltb (end w s) (end w k) l)
 
-  found-last : (k s : ℕ) → around w root s k ≡ true → isLoop (class w k) ≡ false → isList (class w k) ≡ true → end w k ≤ end w s
-      → climb w root (suc k) s ≡ after w root k
+  found-last : (k s : ℕ) → around w s k ≡ true → isLoop (class w k) ≡ false → isList (class w k) ≡ true → end w k ≤ end w s
+      → climb w (suc k) s ≡ after w k
   unfolding climb after
   found-last k s a t u l = rw (a, climb, t, u, le-ltb (end w s) (end w k) l)
 
-  found-up : (k s : ℕ) → around w root s k ≡ true → isLoop (class w k) ≡ false → isList (class w k) ≡ false → climb w root (suc k) s ≡ after w root k
+  found-up : (k s : ℕ) → around w s k ≡ true → isLoop (class w k) ≡ false → isList (class w k) ≡ false → climb w (suc k) s ≡ after w k
   unfolding climb after
   found-up k s a t u = rw (a, climb, t, u)
 
 -- ---- by the parent
-module _ {w p b : List ℕ} (body : Body w p b) (root k s : ℕ) (h : root ≤ k) (l : k < rowCount w) (i : Child w k s) where
-  to-parent : after w root s ≡ climb w root (suc k) s
+module _ {w p b : List ℕ} (body : Body w p b) (k s : ℕ) (l : k < rowCount w) (i : Child w k s) where
+  to-parent : after w s ≡ climb w (suc k) s
   unfolding after
-  to-parent = climb-to w root s k s (item-from i)
+  to-parent = climb-to w s k s (item-from i)
       (λ q m n. not-around q m n)
     where
-      not-around : (q : ℕ) → k < q → q < s → around w root s q ≡ false
-      not-around q m n = case-of (around w root s q)
-          (λ t. absurd (omega (arith, around-true w root s q t .1, ends-before (body .sized) (body .child-within) (body .sized .within k l) i q m n)))
+      not-around : (q : ℕ) → k < q → q < s → around w s q ≡ false
+      not-around q m n = case-of (around w s q)
+          (λ t. absurd (omega (arith, around-true w s q t, ends-before (body .sized) (body .child-within) (body .sized .within k l) i q m n)))
           (λ f. f)
 
-  around-parent : around w root s k ≡ true
-  around-parent = true-around w root s k h (item-before i)
+  around-parent : around w s k ≡ true
+  around-parent = true-around w s k (item-before i)
 
-  pub after-in-loop : isLoop (class w k) ≡ true → after w root s ≡ at k
-  after-in-loop t = to-parent ∙ found-around w root k s around-parent t
+  pub after-in-loop : isLoop (class w k) ≡ true → after w s ≡ at k
+  after-in-loop t = to-parent ∙ found-around w k s around-parent t
 
-  pub after-in-list : isLoop (class w k) ≡ false → isList (class w k) ≡ true → end w s < end w k → after w root s ≡ at (end w s)
-  after-in-list t u m = to-parent ∙ found-next w root k s around-parent t u m
+  pub after-in-list : isLoop (class w k) ≡ false → isList (class w k) ≡ true → end w s < end w k → after w s ≡ at (end w s)
+  after-in-list t u m = to-parent ∙ found-next w k s around-parent t u m
 
-  pub after-last : isLoop (class w k) ≡ false → isList (class w k) ≡ true → end w k ≤ end w s → after w root s ≡ after w root k
-  after-last t u m = to-parent ∙ found-last w root k s around-parent t u m
+  pub after-last : isLoop (class w k) ≡ false → isList (class w k) ≡ true → end w k ≤ end w s → after w s ≡ after w k
+  after-last t u m = to-parent ∙ found-last w k s around-parent t u m
 
-  pub after-in-other : isLoop (class w k) ≡ false → isList (class w k) ≡ false → after w root s ≡ after w root k
-  after-in-other t u = to-parent ∙ found-up w root k s around-parent t u
+  pub after-in-other : isLoop (class w k) ≡ false → isList (class w k) ≡ false → after w s ≡ after w k
+  after-in-other t u = to-parent ∙ found-up w k s around-parent t u

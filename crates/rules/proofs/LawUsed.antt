@@ -16,11 +16,11 @@ use Rattle.rules.proofs.RunnerBodies.{by-choices}
 -- all labels and labelled branches are lawful; on every route the runner is never at the closing brace, has a next state at each row whichever way it chooses,
 -- and where the route can't be made longer it has stopped
 abbrev Lawful-and-safe : List ℕ → Type 0
-Lawful-and-safe w = AllLawful w pairs bytes 0
-    × ((l k : List State) → Route w pairs bytes 0 (l ++ brace ∷ k) → ⊥)
-    × ((l k : List State) (r : ℕ) → Route w pairs bytes 0 (l ++ at r ∷ k) → 0 < choices w pairs bytes 0 (at r))
-    × ((l k : List State) (r c : ℕ) → Route w pairs bytes 0 (l ++ at r ∷ k) → c < choices w pairs bytes 0 (at r) → (t : State) × (step w pairs bytes 0 (at r) c ≡ some t))
-    × ((l : List State) (s : State) → Route w pairs bytes 0 (l ++ s ∷ []) → ((t : State) → Route w pairs bytes 0 (l ++ s ∷ t ∷ []) → ⊥) → s ≡ stopped)
+Lawful-and-safe w = AllLawful w pairs bytes
+    × ((l k : List State) → Route w pairs bytes (l ++ brace ∷ k) → ⊥)
+    × ((l k : List State) (r : ℕ) → Route w pairs bytes (l ++ at r ∷ k) → 0 < choices w pairs bytes (at r))
+    × ((l k : List State) (r c : ℕ) → Route w pairs bytes (l ++ at r ∷ k) → c < choices w pairs bytes (at r) → (t : State) × (step w pairs bytes (at r) c ≡ some t))
+    × ((l : List State) (s : State) → Route w pairs bytes (l ++ s ∷ []) → ((t : State) → Route w pairs bytes (l ++ s ∷ t ∷ []) → ⊥) → s ≡ stopped)
 
 lawful-and-safe : (w : List ℕ) → Good w pairs bytes → Lawful-and-safe w
 lawful-and-safe w g = (
@@ -48,6 +48,6 @@ unfolding computed
 select-in-loop = lawful-and-safe selectInLoop (record { well-formed = refl; no-fault = refl; yes = refl; placed = refl })
 
 -- the switch of L: for { switch { case: break L; default: return } }; return has two ways, and the law gives a next state by each of them
-pub both-ways : (c : ℕ) → c < 2 → (t : State) × (step breakFromSwitch pairs bytes 0 (at 4) c ≡ some t)
+pub both-ways : (c : ℕ) → c < 2 → (t : State) × (step breakFromSwitch pairs bytes (at 4) c ≡ some t)
 unfolding computed
 both-ways c h = break-from-switch .3 (at 0 ∷ at 1 ∷ at 2 ∷ at 3 ∷ []) [] 4 c (refl, by-choices breakFromSwitch (at 0) (0 ∷ 0 ∷ 0 ∷ 0 ∷ []) refl) h

@@ -5,12 +5,12 @@ use mathlib.Core.Path.{_≡_, refl, sym, _∙_, ap}
 use mathlib.Core.Bool.{Bool, true, false, _&&_, not}
 use mathlib.Core.List.{List, [], _∷_}
 use mathlib.Core.Option.{none, some}
-use Prim.Native.Nat.{ℕ, zero, suc, _≤_, _<_}
+use Prim.Native.Nat.{ℕ, zero, suc, _<_}
 use native.Mathlib.Omega.{arith}
 use native.Mathlib.Decide.{ℕ-discrete}
 use borrow.Author.Tests.{not-true}
 use Rattle.rules.specs.Scan.{lowest}
-use Rattle.rules.specs.Rows.{rowCount, kind, detail, Child, InBody}
+use Rattle.rules.specs.Rows.{rowCount, kind, detail, Child}
 use Rattle.rules.specs.Class.{Class, empty, caseBlock, oneOf, isBranch, isBreakable, isLoop, isCase, isStatement, detailAllowed, classOf, following, base, class}
 use Rattle.rules.specs.Scope.{isList, holdsItems, around, innermost, listOf}
 use Rattle.rules.specs.Body.{Body, fits}
@@ -20,7 +20,7 @@ use Rattle.rules.proofs.Every.{every, same, same-eq, classAt, of-classe
 use Rattle.rules.proofs.Nesting.{item-before, item-from, child-around, ends-before}
 use Rattle.rules.proofs.ClassRules.{class-rule, child-rule, parent-rule}
 use Rattle.rules.proofs.Around.{around-true, true-around, Innermost, innermost-found, innermost-last, innermost-none}
-use Rattle.rules.proofs.Final.{row-of, parent-in}
+use Rattle.rules.proofs.Final.{parent-in}
 
 -- ---- tests that do not tell a Block of a switch or Select apart
 own-words : (P : Class → Bool) → every 23 (λ i. every 23 (λ j. same (P (following (classAt i) (classAt j))) (P (classAt j)))) ≡ true
@@ -89,36 +89,35 @@ unfolding every lowest
 home-holds = class-rule (oneOf (caseBlock ∷ [])) holdsItems refl
 
 -- ---- what is found
-module _ (w : List ℕ) (root : ℕ) (P : Class → Bool) (r : ℕ) where
-  not-innermost : (k : ℕ) → k < r → (Innermost w root P r k → ⊥) → (around w root r k && P (class w k)) ≡ false
-  not-innermost k h n = case-of (around w root r k && P (class w k))
+module _ (w : List ℕ) (P : Class → Bool) (r : ℕ) where
+  not-innermost : (k : ℕ) → k < r → (Innermost w P r k → ⊥) → (around w r k && P (class w k)) ≡ false
+  not-innermost k h n = case-of (around w r k && P (class w k))
       (λ t.
-      let a = and-true (around w root r k) (P (class w k)) t in
-      let s = around-true w root r k (a .0) in
-      absurd (n (record { before = h; from = s .0; reaches = s .1; passes = a .1 })))
+      let a = and-true (around w r k) (P (class w k)) t in
+      absurd (n (record { before = h; reaches = around-true w r k (a .0); passes = a .1 })))
       (λ f. f)
 
-  pub found-innermost : (k : ℕ) → Innermost w root P r k → ((q : ℕ) → k < q → Innermost w root P r q → ⊥) → innermost w root P r ≡ some k
+  pub found-innermost : (k : ℕ) → Innermost w P r k → ((q : ℕ) → k < q → Innermost w P r q → ⊥) → innermost w P r ≡ some k
   unfolding innermost
   found-innermost k i n =
-      found-highest (λ k. around w root r k && P (class w k)) r k (i .before) (rw (true-around w root r k (i .from) (i .reaches), i .passes))
+      found-highest (λ k. around w r k && P (class w k)) r k (i .before) (rw (true-around w r k (i .reaches), i .passes))
       (λ q a h. not-innermost q h (n q a))
 
-  pub none-innermost : ((q : ℕ) → Innermost w root P r q → ⊥) → innermost w root P r ≡ none
+  pub none-innermost : ((q : ℕ) → Innermost w P r q → ⊥) → innermost w P r ≡ none
   unfolding innermost
-  none-innermost n = none-highest (λ k. around w root r k && P (class w k)) r (λ k h. not-innermost k h (n k))
+  none-innermost n = none-highest (λ k. around w r k && P (class w k)) r (λ k h. not-innermost k h (n k))
 
 -- a class that passes one test passes a weaker one
-weaker : (w : List ℕ) (root : ℕ) (P Q : Class → Bool) (r k : ℕ) → (P (class w k) ≡ true → Q (class w k) ≡ true)
-    → Innermost w root P r k → Innermost w root Q r k
-weaker w root P Q r k f i = record { before = i .before; from = i .from; reaches = i .reaches; passes = f (i .passes) }
+weaker : (w : List ℕ) (P Q : Class → Bool) (r k : ℕ) → (P (class w k) ≡ true → Q (class w k) ≡ true)
+    → Innermost w P r k → Innermost w Q r k
+weaker w P Q r k f i = record { before = i .before; reaches = i .reaches; passes = f (i .passes) }
 
-module _ {w p b : List ℕ} (body : Body w p b) (root : ℕ) where
+module _ {w p b : List ℕ} (body : Body w p b) where
   -- the innermost row that holds items around a statement is a list
-  list-around : (r k : ℕ) → r < rowCount w → isStatement (class w r) ≡ true → innermost w root holdsItems r ≡ some k → isList (class w k) ≡ true
+  list-around : (r k : ℕ) → r < rowCount w → isStatement (class w r) ≡ true → innermost w holdsItems r ≡ some k → isList (class w k) ≡ true
   list-around r k l s e = case-of (isList (class w k)) (λ t. t)
       (λ f.
-      let i = innermost-found w root holdsItems r k e in
+      let i = innermost-found w holdsItems r k e in
       let lt = i .before in
       let clauses : holdsClauses (class w k) ≡ true = rw (i .passes, f) in
       let (d, c, h, m) = child-around (body .sized) k r (omega arith) lt (i .reaches) in
@@ -129,34 +128,33 @@ module _ {w p b : List ℕ} (body : Body w p b) (root : ℕ) where
             let z : isStatement (class w r) ≡ false = rw y at (clause-no-statement (class w k) (class w d) clauses fit) in
             absurd (clash (cc))
         | no n ↦
-            absurd (innermost-last w root holdsItems r k d e from
-            (record { before = omega arith; from = omega (arith, i .from); reaches = m; passes = clause-holds (class w k) (class w d) clauses fit }))
+            absurd (innermost-last w holdsItems r k d e from
+            (record { before = omega arith; reaches = m; passes = clause-holds (class w k) (class w d) clauses fit }))
       ])
 
   -- so it is the statement's list
-  pub statement-list : (r : ℕ) → r < rowCount w → isStatement (class w r) ≡ true → listOf w root r ≡ innermost w root holdsItems r
+  pub statement-list : (r : ℕ) → r < rowCount w → isStatement (class w r) ≡ true → listOf w r ≡ innermost w holdsItems r
   unfolding listOf
-  statement-list r l s = case-found (innermost w root holdsItems r)
+  statement-list r l s = case-found (innermost w holdsItems r)
       (λ k e.
-      found-innermost w root isList r k (weaker w root holdsItems isList r k (λ t. list-around r k l s e) (innermost-found w root holdsItems r k e))
-      (λ q a i. innermost-last w root holdsItems r k q e a (weaker w root isList holdsItems r q (list-holds (class w q)) i))
+      found-innermost w isList r k (weaker w holdsItems isList r k (λ t. list-around r k l s e) (innermost-found w holdsItems r k e))
+      (λ q a i. innermost-last w holdsItems r k q e a (weaker w isList holdsItems r q (list-holds (class w q)) i))
       ∙ sym e)
       (λ e.
-      none-innermost w root isList r (λ q i. innermost-none w root holdsItems r q e (weaker w root isList holdsItems r q (list-holds (class w q)) i))
+      none-innermost w isList r (λ q i. innermost-none w holdsItems r q e (weaker w isList holdsItems r q (list-holds (class w q)) i))
       ∙ sym e)
 
   -- a parent is the innermost row around its child
-  pub parent-innermost : (P : Class → Bool) (j c : ℕ) → root ≤ j → j < rowCount w → Child w j c → P (class w j) ≡ true → innermost w root P c ≡ some j
-  parent-innermost P j c f l d t =
+  pub parent-innermost : (P : Class → Bool) (j c : ℕ) → j < rowCount w → Child w j c → P (class w j) ≡ true → innermost w P c ≡ some j
+  parent-innermost P j c l d t =
       let from = item-from d in
-      found-innermost w root P c j (record { before = omega arith; from = f; reaches = item-before d; passes = t })
+      found-innermost w P c j (record { before = omega arith; reaches = item-before d; passes = t })
       (λ q a i. omega (arith, i .reaches, ends-before (body .sized) (body .child-within) (body .sized .within j l) d q a (i .before)))
 
   -- the innermost row that holds items around a Case is the Block of its switch
-  pub case-home : (c : ℕ) → root < rowCount w → InBody w root c → root < c → isCase (class w c) ≡ true
-      → innermost w root (oneOf (caseBlock ∷ [])) c ≡ innermost w root holdsItems c
-  case-home c l i h t =
-      let (j, q, m, d) = parent-in body root l c i h in
-      let n = row-of body root l q in
-      let u = case-parent (class w j) (class w c) t (body .child-fits j c n d) in
-      parent-innermost (oneOf (caseBlock ∷ [])) j c (q .0) n d u ∙ sym (parent-innermost holdsItems j c (q .0) n d (home-holds (class w j) u))
+  pub case-home : (c : ℕ) → c < rowCount w → 0 < c → isCase (class w c) ≡ true
+      → innermost w (oneOf (caseBlock ∷ [])) c ≡ innermost w holdsItems c
+  case-home c i h t =
+      let (j, q, m, d) = parent-in body c i h in
+      let u = case-parent (class w j) (class w c) t (body .child-fits j c q d) in
+      parent-innermost (oneOf (caseBlock ∷ [])) j c q d u ∙ sym (parent-innermost holdsItems j c q d (home-holds (class w j) u))

@@ -1,5 +1,5 @@
 -- The rows that a route comes to: of the body, no Block of a switch or Select, and no final Empty row.
--- Going on after a row that is not final comes to such a row: each row passed on the way up is not final either, so the root is never passed,
+-- Going on after a row that is not final comes to such a row: each row passed on the way up is not final either, so row 0 is never passed,
 -- and were the next item a final Empty row, then the row before it would be final.
 -- Assumes nothing.
 use mathlib.Core.Path.{_≡_, refl, _∙_}
@@ -10,7 +10,7 @@ use native.Mathlib.Omega.{arith}
 use native.Mathlib.Decide.{ℕ-discrete, decLt}
 use borrow.Author.Tests.{not-true}
 use Rattle.rules.specs.Scan.{lowest}
-use Rattle.rules.specs.Rows.{rowCount, end, Child, InBody}
+use Rattle.rules.specs.Rows.{rowCount, end, Child}
 use Rattle.rules.specs.Class.{Class, empty, oneOf, isLoop, class}
 use Rattle.rules.specs.Scope.{isList}
 use Rattle.rules.specs.Body.{Body}
@@ -22,12 +22,12 @@ use Rattle.rules.proofs.Every.{every}
 use Rattle.rules.proofs.ClassRules.{isClauseBlock, class-rule, only-opened}
 use Rattle.rules.proofs.Around.{AllEmpty}
 use Rattle.rules.proofs.Going.{after-in-loop, after-in-list, after-last, after-in-other}
-use Rattle.rules.proofs.Final.{Final, whole, below, row-of, child-in, parent-in, final-parent}
+use Rattle.rules.proofs.Final.{Final, whole, below, child-in, parent-in, final-parent}
 
-pub record RouteRow (w : List ℕ) (root r : ℕ) : Type 0 where
-  pub row : InBody w root r
+pub record RouteRow (w : List ℕ) (r : ℕ) : Type 0 where
+  pub row : r < rowCount w
   pub not-clauses : isClauseBlock (class w r) ≡ false
-  pub not-last : class w r ≡ empty → Final w root r → ⊥
+  pub not-last : class w r ≡ empty → Final w r → ⊥
 
 pub list-opens : (c : Class) → isList c ≡ true → opens c ≡ false
 unfolding every lowest
@@ -45,7 +45,7 @@ ordinary-block : (c : Class) → isOrdinary c ≡ true → isClauseBlock c ≡ f
 unfolding every lowest
 ordinary-block c t = not-true (isClauseBlock c) (class-rule isOrdinary (λ c. not (isClauseBlock c)) refl c t)
 
-pub ordinary-row : {w : List ℕ} {root : ℕ} (r : ℕ) → InBody w root r → isOrdinary (class w r) ≡ true → RouteRow w root r
+pub ordinary-row : {w : List ℕ} (r : ℕ) → r < rowCount w → isOrdinary (class w r) ≡ true → RouteRow w r
 ordinary-row {w} r i t = record {
   row = i;
   not-clauses = ordinary-block (class w r) t;
@@ -59,44 +59,42 @@ empty-first body c e m x a k h n = elim (ℕ-discrete c k) [
   | no o ↦ a k (omega (arith, body .leaf c m (rw x))) n
 ]
 
-module _ {w p b : List ℕ} (body : Body w p b) (root : ℕ) (l : root < rowCount w) where
+module _ {w p b : List ℕ} (body : Body w p b) where
   -- the next item of a list: were it Empty and final, then s would be final
-  next-row : (k s : ℕ) → InBody w root k → Child w k s → isList (class w k) ≡ true → end w s < end w k → (Final w root s → ⊥) → RouteRow w root (end w s)
+  next-row : (k s : ℕ) → k < rowCount w → Child w k s → isList (class w k) ≡ true → end w s < end w k → (Final w s → ⊥) → RouteRow w (end w s)
   next-row k s i c t h u =
       let n = item-next c h in
-      let m = row-of body root l i in
-      let q = child-in body root l k i n in
+      let q = child-in body k i n in
       record {
         row = q;
-        not-clauses = only-opened (class w k) (class w (end w s)) (list-opens (class w k) t) (body .child-fits k (end w s) m n);
+        not-clauses = only-opened (class w k) (class w (end w s)) (list-opens (class w k) t) (body .child-fits k (end w s) i n);
         not-last = λ e d.
-            let (f, x, y) = final-parent body root l k d (omega (arith, i .0, item-from n)) m n in
-            u (below k f c x (λ z. empty-first body (end w s) (end w k) (row-of body root l q) e (y z)));
+            let (f, x, y) = final-parent body k d (omega (arith, item-from n)) i n in
+            u (below k f c x (λ z. empty-first body (end w s) (end w k) q e (y z)));
       }
 
   abbrev pub GoesOn : ℕ → Type 0
-  GoesOn s = (t : ℕ) × (after w root s ≡ at t) × RouteRow w root t
+  GoesOn s = (t : ℕ) × (after w s ≡ at t) × RouteRow w t
 
-  same-after : (k s : ℕ) → after w root s ≡ after w root k → GoesOn k → GoesOn s
+  same-after : (k s : ℕ) → after w s ≡ after w k → GoesOn k → GoesOn s
   same-after k s e (t, f, r) = (t, e ∙ f, r)
 
-  steps : (f s : ℕ) → s < f → InBody w root s → (Final w root s → ⊥) → GoesOn s
+  steps : (f s : ℕ) → s < f → s < rowCount w → (Final w s → ⊥) → GoesOn s
   steps zero s m i u = absurd (omega arith)
-  steps (suc f) s m i u = elim (ℕ-discrete s root) [
+  steps (suc f) s m i u = elim (ℕ-discrete s 0) [
     | yes e ↦ absurd (u (rw e whole))
     | no o ↦
-        let (k, j, lt, c) = parent-in body root l s i (omega (arith, i .0)) in
-        let kn = row-of body root l j in
+        let (k, j, lt, c) = parent-in body s i (omega arith) in
         let on = steps f k (omega arith) j in
         case-of (isLoop (class w k))
-        (λ t. (k, after-in-loop body root k s (j .0) kn c t, ordinary-row k j (loop-ordinary (class w k) t)))
+        (λ t. (k, after-in-loop body k s j c t, ordinary-row k j (loop-ordinary (class w k) t)))
         (λ t. case-of (isList (class w k))
         (λ x. elim (decLt (end w s) (end w k)) [
-          | yes h ↦ (end w s, after-in-list body root k s (j .0) kn c t x h, next-row k s j c x h u)
-          | no h ↦ same-after k s (after-last body root k s (j .0) kn c t x (omega arith)) (on (λ d. u (below k d c t (λ _ q a z. absurd (omega arith)))))
+          | yes h ↦ (end w s, after-in-list body k s j c t x h, next-row k s j c x h u)
+          | no h ↦ same-after k s (after-last body k s j c t x (omega arith)) (on (λ d. u (below k d c t (λ _ q a z. absurd (omega arith)))))
         ])
-        (λ x. same-after k s (after-in-other body root k s (j .0) kn c t x) (on (λ d. u (below k d c t (λ z. absurd (clash (cc))))))))
+        (λ x. same-after k s (after-in-other body k s j c t x) (on (λ d. u (below k d c t (λ z. absurd (clash (cc))))))))
   ]
 
-  pub goes-on : (s : ℕ) → InBody w root s → (Final w root s → ⊥) → GoesOn s
+  pub goes-on : (s : ℕ) → s < rowCount w → (Final w s → ⊥) → GoesOn s
   goes-on s = steps (suc s) s (omega arith)

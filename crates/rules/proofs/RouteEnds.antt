@@ -16,8 +16,8 @@ all-at P [] k s h = h .0
 all-at P (t ∷ l) k s h = all-at P l k s (h .1)
 
 module _ (w p b : List ℕ) where
-  safe-at : Good w p b → (l k : List State) (s : State) → Route w p b 0 (l ++ s ∷ k) → Safe w p b 0 s
-  safe-at g l k s r = all-at (Safe w p b 0) l k s (route-law w p b (g .well-formed) (g .no-fault) (g .yes) (g .placed) (l ++ s ∷ k) r)
+  safe-at : Good w p b → (l k : List State) (s : State) → Route w p b (l ++ s ∷ k) → Safe w p b s
+  safe-at g l k s r = all-at (Safe w p b) l k s (route-law w p b (g .well-formed) (g .no-fault) (g .yes) (g .placed) (l ++ s ∷ k) r)
 
   pub never-brace : NeverBrace w p b
   never-brace g l k r = safe-at g l k brace r .inside refl
@@ -26,12 +26,12 @@ module _ (w p b : List ℕ) where
   never-stuck g l k r h = elim (safe-at g l k (at r) h .goes-on) [ inl e ↦ absurd (clash (cc)) | inr m ↦ m ]
 
   -- ---- a route that ends at s goes on by a choice that is open there
-  module _ (s t : State) (c : ℕ) (h : c < choices w p b 0 s) (e : step w p b 0 s c ≡ some t) where
-    longer-walk : {q : State} (l : List State) → Walk w p b 0 q (l ++ s ∷ []) → Walk w p b 0 q (l ++ s ∷ t ∷ [])
+  module _ (s t : State) (c : ℕ) (h : c < choices w p b s) (e : step w p b s c ≡ some t) where
+    longer-walk : {q : State} (l : List State) → Walk w p b q (l ++ s ∷ []) → Walk w p b q (l ++ s ∷ t ∷ [])
     longer-walk [] (go d n f done) = go d n f (go c h e done)
     longer-walk (x ∷ l) (go d n f r) = go d n f (longer-walk l r)
 
-    longer-route : (l : List State) → Route w p b 0 (l ++ s ∷ []) → Route w p b 0 (l ++ s ∷ t ∷ [])
+    longer-route : (l : List State) → Route w p b (l ++ s ∷ []) → Route w p b (l ++ s ∷ t ∷ [])
     longer-route [] (i, r) = (i, go c h e done)
     longer-route (q ∷ l) (i, r) = (i, longer-walk l r)
 

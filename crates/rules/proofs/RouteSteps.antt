@@ -11,7 +11,7 @@ use native.Mathlib.Omega.{arith}
 use lib.Dec.{ltb}
 use borrow.Author.Tests.{ltb-true, ltb-false}
 use Rattle.rules.specs.Scan.{lowest}
-use Rattle.rules.specs.Rows.{rowCount, size, end, here, later, Child, InBody}
+use Rattle.rules.specs.Rows.{rowCount, size, end, here, later, Child}
 use Rattle.rules.specs.Class.{
   Class,
   plain,
@@ -71,7 +71,7 @@ use Rattle.rules.proofs.ClassRules.{isClauseBlock, isNever, child-rule,
 use Rattle.rules.proofs.Terminating.{refers-inside, no-break}
 use Rattle.rules.proofs.Going.{clause-count, item-at, default-clause}
 use Rattle.rules.proofs.Ends.{Ends, empty-ends, all-empty-ends, never-ends, labeled-ends, statements-end, switch-ends, breakable-ends}
-use Rattle.rules.proofs.Final.{Final, row-of, child-in, final-parent, not-final}
+use Rattle.rules.proofs.Final.{Final, child-in, final-parent, not-final}
 use Rattle.rules.proofs.Onward.{RouteRow, list-opens, isOrdinary, loop-ordinary, ordinary-row, empty-first, goes-on}
 use Rattle.rules.proofs.Destinations.{break-to, continue-to, goto-to, next-case-row, breaks, continues, gotos, falls}
 
@@ -89,21 +89,21 @@ unfolding every lowest
 clause-ordinary = child-rule isClauseBlock isOrdinary refl
 
 -- a state that a route comes to
-pub data RouteState (w : List ℕ) (root : ℕ) : State → Type 0 where
-  halted : RouteState w root stopped
-  standing : (r : ℕ) → RouteRow w root r → RouteState w root (at r)
+pub data RouteState (w : List ℕ) : State → Type 0 where
+  halted : RouteState w stopped
+  standing : (r : ℕ) → RouteRow w r → RouteState w (at r)
 
 -- n choices are open, and each leads to such a state
-abbrev pub Leads : List ℕ → ℕ → ℕ → (ℕ → Option State) → Type 0
-Leads w root n f = (0 < n) × ((c : ℕ) → c < n → (t : State) × (f c ≡ some t) × RouteState w root t)
+abbrev pub Leads : List ℕ → ℕ → (ℕ → Option State) → Type 0
+Leads w n f = (0 < n) × ((c : ℕ) → c < n → (t : State) × (f c ≡ some t) × RouteState w t)
 
-one-way : {w : List ℕ} {root : ℕ} {t : State} → RouteState w root t → Leads w root 1 (λ c. some t)
+one-way : {w : List ℕ} {t : State} → RouteState w t → Leads w 1 (λ c. some t)
 one-way {t = t} g = (omega arith, λ c h. (t, refl, g))
 
-two-ways : {w : List ℕ} {root : ℕ} {x y : State} → RouteState w root x → RouteState w root y → Leads w root 2 (λ c. some (pick c x y))
-two-ways {w} {root} {x} {y} f g = (omega arith, λ c h. (pick c x y, refl, picked c))
+two-ways : {w : List ℕ} {x y : State} → RouteState w x → RouteState w y → Leads w 2 (λ c. some (pick c x y))
+two-ways {w} {x} {y} f g = (omega arith, λ c h. (pick c x y, refl, picked c))
   where
-    picked : (c : ℕ) → RouteState w root (pick c x y)
+    picked : (c : ℕ) → RouteState w (pick c x y)
     picked zero = g
     picked (suc c) = f
 
@@ -111,138 +111,135 @@ some-or-one : (n : ℕ) → 0 < elim n [ zero ↦ 1 | suc m ↦ suc m ]
 some-or-one zero = omega arith
 some-or-one (suc m) = omega arith
 
-module _ {w p b : List ℕ} (body : Body w p b) (root : ℕ) (l : root < rowCount w) (ends : Ends w p b root root) where
+module _ {w p b : List ℕ} (body : Body w p b) (ends : Ends w p b 0) where
   -- going on after a row that is not final
-  on : (s : ℕ) → InBody w root s → (Final w root s → ⊥) → RouteState w root (after w root s)
-  on s i u = let (t, e, r) = goes-on body root l s i u in rw e (standing t r)
+  on : (s : ℕ) → s < rowCount w → (Final w s → ⊥) → RouteState w (after w s)
+  on s i u = let (t, e, r) = goes-on body s i u in rw e (standing t r)
 
-  past : (s : ℕ) → InBody w root s → (class w s ≡ empty → ⊥) → (Ends w p b root s → ⊥) → RouteState w root (after w root s)
-  past s i n m = on s i (not-final body root l s ends n m)
+  past : (s : ℕ) → s < rowCount w → (class w s ≡ empty → ⊥) → (Ends w p b s → ⊥) → RouteState w (after w s)
+  past s i n m = on s i (not-final body s ends n m)
 
-  ordinary : (s : ℕ) → InBody w root s → isOrdinary (class w s) ≡ true → RouteState w root (at s)
+  ordinary : (s : ℕ) → s < rowCount w → isOrdinary (class w s) ≡ true → RouteState w (at s)
   ordinary s i t = standing s (ordinary-row s i t)
 
-  module _ (r : ℕ) (known : RouteRow w root r) where
-    inside : InBody w root r
+  module _ (r : ℕ) (known : RouteRow w r) where
+    inside : r < rowCount w
     inside = known .row
 
-    is-row : r < rowCount w
-    is-row = row-of body root l inside
-
-    past-never : isNever (class w r) ≡ true → (class w r ≡ empty → ⊥) → RouteState w root (after w root r)
-    past-never t n = past r inside n (never-ends w p b root r t)
+    past-never : isNever (class w r) ≡ true → (class w r ≡ empty → ⊥) → RouteState w (after w r)
+    past-never t n = past r inside n (never-ends w p b r t)
 
     -- a child of an If or loop
-    part : (s : ℕ) → oneOf (if ∷ ifElse ∷ for ∷ forCond ∷ []) (class w r) ≡ true → Child w r s → RouteState w root (at s)
-    part s t c = ordinary s (child-in body root l r inside c) (part-ordinary (class w r) (class w s) t (body .child-fits r s is-row c))
+    part : (s : ℕ) → oneOf (if ∷ ifElse ∷ for ∷ forCond ∷ []) (class w r) ≡ true → Child w r s → RouteState w (at s)
+    part s t c = ordinary s (child-in body r inside c) (part-ordinary (class w r) (class w s) t (body .child-fits r s inside c))
 
     -- the first child, where it is not both Empty and final
-    first : suc r < end w r → opens (class w r) ≡ false → (class w (suc r) ≡ empty → Final w root (suc r) → ⊥) → RouteState w root (at (suc r))
+    first : suc r < end w r → opens (class w r) ≡ false → (class w (suc r) ≡ empty → Final w (suc r) → ⊥) → RouteState w (at (suc r))
     first h o u = standing (suc r) (record {
-      row = child-in body root l r inside (here h);
-      not-clauses = only-opened (class w r) (class w (suc r)) o (body .child-fits r (suc r) is-row (here h));
+      row = child-in body r inside (here h);
+      not-clauses = only-opened (class w r) (class w (suc r)) o (body .child-fits r (suc r) inside (here h));
       not-last = u;
     })
 
-    statement-of : class w r ≡ labeled → RouteState w root (at (suc r))
+    statement-of : class w r ≡ labeled → RouteState w (at (suc r))
     statement-of e =
-        let h = body .one-statement r is-row (rw e) .0 in
+        let h = body .one-statement r inside (rw e) .0 in
         first h (rw e) (λ x d.
-        let f = final-parent body root l r d (omega (arith, inside .0)) is-row (here h) .0 in
-        not-final body root l r ends (λ y. clash (cc)) (λ t. empty-ends w p b root (suc r) x (labeled-ends w p b root r e t)) f)
+        let f = final-parent body r d (omega arith) inside (here h) .0 in
+        not-final body r ends (λ y. clash (cc)) (λ t. empty-ends w p b (suc r) x (labeled-ends w p b r e t)) f)
 
     -- a list
-    entered : isList (class w r) ≡ true → opens (class w r) ≡ false → (class w r ≡ empty → ⊥) → RouteState w root (enter w p b root r)
+    entered : isList (class w r) ≡ true → opens (class w r) ≡ false → (class w r ≡ empty → ⊥) → RouteState w (enter w p b r)
     entered t o n = case-of (ltb 1 (size w r))
         (λ z.
         let g = ltb-true 1 (size w r) z in
         let h : suc r < end w r = omega arith in
         rw (z, enter) (first h o (λ x d.
-        let (f, y, a) = final-parent body root l r d (omega (arith, inside .0)) is-row (here h) in
-        let k = empty-first body (suc r) (end w r) (row-of body root l (child-in body root l r inside (here h))) x (a t) in
-        not-final body root l r ends n (λ u. all-empty-ends w p b root (end w r) (suc r) k (statements-end w p b root r t u)) f)))
+        let (f, y, a) = final-parent body r d (omega arith) inside (here h) in
+        let k = empty-first body (suc r) (end w r) (child-in body r inside (here h)) x (a t) in
+        not-final body r ends n (λ u. all-empty-ends w p b (end w r) (suc r) k (statements-end w p b r t u)) f)))
         (λ z.
         let g = ltb-false 1 (size w r) z in
-        rw (z, enter) (past r inside n (λ u. all-empty-ends w p b root (end w r) (suc r) (λ k a x. absurd (omega arith)) (statements-end w p b root r t u))))
+        rw (z, enter) (past r inside n (λ u. all-empty-ends w p b (end w r) (suc r) (λ k a x. absurd (omega arith)) (statements-end w p b r t u))))
 
     -- a clause of a switch or Select
-    clause-of : (c : ℕ) → opens (class w r) ≡ true → c < clauseCount w r → RouteState w root (at (itemAt w (suc (suc r)) c))
+    clause-of : (c : ℕ) → opens (class w r) ≡ true → c < clauseCount w r → RouteState w (at (itemAt w (suc (suc r)) c))
     clause-of c t h =
-        let (g, e) = body .one-block r is-row (opens-holds (class w r) t) in
-        let k = child-in body root l r inside (here g) in
+        let (g, e) = body .one-block r inside (opens-holds (class w r) t) in
+        let k = child-in body r inside (here g) in
         let n : c < itemCount w (size w r) (end w r) (suc (suc r)) = rw clause-count at h in
         let s = itemAt w (suc (suc r)) c in
         let q : Child w (suc r) s = rw e (item-at w (size w r) (end w r) (suc (suc r)) c n) in
-        let x = opened-block (class w r) (class w (suc r)) t (body .child-fits r (suc r) is-row (here g)) in
-        ordinary s (child-in body root l (suc r) k q) (clause-ordinary (class w (suc r)) (class w s) x (body .child-fits (suc r) s (row-of body root l k) q))
+        let x = opened-block (class w r) (class w (suc r)) t (body .child-fits r (suc r) inside (here g)) in
+        ordinary s (child-in body (suc r) k q) (clause-ordinary (class w (suc r)) (class w s) x (body .child-fits (suc r) s (k) q))
 
     -- a switch: with a default each choice is a clause, without one it is not terminating
     switched : (c : ℕ) → isSwitch (class w r) ≡ true → c < elim (hasDefault w r) [ true ↦ clauseCount w r | false ↦ suc (clauseCount w r) ]
-        → RouteState w root (clause w p b root r c (after w root r))
+        → RouteState w (clause w p b r c (after w r))
     switched c t h = case-of (ltb c (clauseCount w r))
         (λ z. rw (z, clause) (clause-of c (rw t) (ltb-true c (clauseCount w r) z)))
         (λ z. rw (z, clause) (past r inside (λ e. let y : false ≡ true = rw e at t in clash (cc)) (λ u.
-        let n : c < clauseCount w r = rw (switch-ends w p b root r t u .0) at h in
+        let n : c < clauseCount w r = rw (switch-ends w p b r t u .0) at h in
         omega (arith, ltb-false c (clauseCount w r) z))))
 
     choices-left : 0 < elim (hasDefault w r) [ true ↦ clauseCount w r | false ↦ suc (clauseCount w r) ]
     choices-left = case-of (hasDefault w r) (λ z. rw z (default-clause w r z)) (λ z. rw z (omega arith))
 
-    selected : (c : ℕ) → class w r ≡ select → RouteState w root (clause w p b root r c stopped)
+    selected : (c : ℕ) → class w r ≡ select → RouteState w (clause w p b r c stopped)
     selected c e = case-of (ltb c (clauseCount w r))
         (λ z. rw (z, clause) (clause-of c (rw e) (ltb-true c (clauseCount w r) z)))
         (λ z. rw (z, clause) halted)
 
     -- ---- branches
-    broken : (s : ℕ) → class w r ≡ break → breakTo w p b root r ≡ some s → RouteState w root (after w root s)
+    broken : (s : ℕ) → class w r ≡ break → breakTo w p b r ≡ some s → RouteState w (after w s)
     broken s e f =
-        let (h, t) = break-to w p b root r s f in
-        let a = refers-inside w p b root r s t in
-        past s (a .from, omega (arith, inside .1)) (λ x. let z : false ≡ true = rw x at (a .passes) in clash (cc))
-        (λ u. no-break w p b root s r (breakable-ends w p b root s (a .passes) u) (a .reaches) e t)
+        let (h, t) = break-to w p b r s f in
+        let a = refers-inside w p b r s t in
+        past s (omega arith) (λ x. let z : false ≡ true = rw x at (a .passes) in clash (cc))
+        (λ u. no-break w p b s r (breakable-ends w p b s (a .passes) u) (a .reaches) e t)
 
-    continued : (s : ℕ) → continueTo w p b root r ≡ some s → RouteState w root (at s)
+    continued : (s : ℕ) → continueTo w p b r ≡ some s → RouteState w (at s)
     continued s f =
-        let a = continue-to w p b root r s f in
-        ordinary s (a .from, omega (arith, inside .1, a .before)) (loop-ordinary (class w s) (a .passes))
+        let a = continue-to w p b r s f in
+        ordinary s (omega (arith, a .before)) (loop-ordinary (class w s) (a .passes))
 
-    gone : (s : ℕ) → gotoTo w p b root r ≡ some s → RouteState w root (at s)
-    gone s f = let (a, e) = goto-to w p b root r s f in ordinary s a (rw e)
+    gone : (s : ℕ) → gotoTo w p b r ≡ some s → RouteState w (at s)
+    gone s f = let (a, e) = goto-to w p b r s f in ordinary s a (rw e)
 
-    fallen : (s : ℕ) → nextCase w root r ≡ some s → RouteState w root (at s)
-    fallen s f = let (a, t) = next-case-row body root l r s inside f in ordinary s a (clause-ordinary caseBlock (class w s) refl t)
+    fallen : (s : ℕ) → nextCase w r ≡ some s → RouteState w (at s)
+    fallen s f = let (a, t) = next-case-row body r s inside f in ordinary s a (clause-ordinary caseBlock (class w s) refl t)
 
     -- ---- the step, by the class of the row
-    listed : isList (class w r) ≡ true → Leads w root 1 (λ c. some (enter w p b root r))
+    listed : isList (class w r) ≡ true → Leads w 1 (λ c. some (enter w p b r))
     listed t = one-way (entered t (list-opens (class w r) t) (λ x. let z : false ≡ true = rw x at t in clash (cc)))
 
-    first-part : holding (class w r) ≡ one → oneOf (if ∷ ifElse ∷ for ∷ forCond ∷ []) (class w r) ≡ true → RouteState w root (at (suc r))
-    first-part h t = part (suc r) t (here (body .one-block r is-row h .0))
+    first-part : holding (class w r) ≡ one → oneOf (if ∷ ifElse ∷ for ∷ forCond ∷ []) (class w r) ≡ true → RouteState w (at (suc r))
+    first-part h t = part (suc r) t (here (body .one-block r inside h .0))
 
-    module _ (lawful : AllLawful w p b root) (placed : placing w root ≡ none) where
-      pub moves : (k : Class) → class w r ≡ k → Leads w root (choicesAs w p b root k r) (stepAs w p b root k r)
+    module _ (lawful : AllLawful w p b) (placed : placing w ≡ none) where
+      pub moves : (k : Class) → class w r ≡ k → Leads w (choicesAs w p b k r) (stepAs w p b k r)
       moves plain e = one-way (past-never (rw e) (λ x. clash (cc)))
       moves declaration e = one-way (past-never (rw e) (λ x. clash (cc)))
       moves empty e = one-way (on r inside (known .not-last e))
       moves labeled e = one-way (statement-of e)
       moves stop e = one-way halted
-      moves break e = let (s, f) = breaks body root l lawful placed r inside e in rw f (one-way (broken s e f))
-      moves continue e = let (s, f) = continues body root l lawful placed r inside e in rw f (one-way (continued s f))
-      moves goto e = let (s, f) = gotos body root l lawful placed r inside e in rw f (one-way (gone s f))
-      moves fallthrough e = let (s, f) = falls body root l lawful placed r inside e in rw f (one-way (fallen s f))
+      moves break e = let (s, f) = breaks body lawful placed r inside e in rw f (one-way (broken s e f))
+      moves continue e = let (s, f) = continues body lawful placed r inside e in rw f (one-way (continued s f))
+      moves goto e = let (s, f) = gotos body lawful placed r inside e in rw f (one-way (gone s f))
+      moves fallthrough e = let (s, f) = falls body lawful placed r inside e in rw f (one-way (fallen s f))
       moves block e = listed (rw e)
       moves caseBlock e = absurd (let z : true ≡ false = rw e at (known .not-clauses) in clash (cc))
       moves commBlock e = absurd (let z : true ≡ false = rw e at (known .not-clauses) in clash (cc))
       moves if e = two-ways (first-part (rw e) (rw e)) (past-never (rw e) (λ x. clash (cc)))
       moves ifElse e =
-          let (h, x, g, y) = body .two-parts r is-row (rw e) in
+          let (h, x, g, y) = body .two-parts r inside (rw e) in
           two-ways (part (suc r) (rw e) (here h)) (part (end w (suc r)) (rw e) (later h (here g)))
       moves case e = listed (rw e)
       moves defaultCase e = listed (rw e)
       moves comm e = listed (rw e)
       moves defaultComm e = listed (rw e)
-      moves switch e = (choices-left, λ c h. (clause w p b root r c (after w root r), refl, switched c (rw e) h))
-      moves typeSwitch e = (choices-left, λ c h. (clause w p b root r c (after w root r), refl, switched c (rw e) h))
-      moves select e = (some-or-one (clauseCount w r), λ c h. (clause w p b root r c stopped, refl, selected c e))
+      moves switch e = (choices-left, λ c h. (clause w p b r c (after w r), refl, switched c (rw e) h))
+      moves typeSwitch e = (choices-left, λ c h. (clause w p b r c (after w r), refl, switched c (rw e) h))
+      moves select e = (some-or-one (clauseCount w r), λ c h. (clause w p b r c stopped, refl, selected c e))
       moves for e = one-way (first-part (rw e) (rw e))
       moves forCond e = two-ways (first-part (rw e) (rw e)) (past-never (rw e) (λ x. clash (cc)))

@@ -11,7 +11,7 @@ use lib.Dec.{leb, eqb}
 use lib.ListN.{length, take, drop, length-take, length-drop}
 use borrow.Author.Tests.{leb-true}
 use Rattle.rules.specs.Scan.{lowest}
-use Rattle.rules.specs.Rows.{rowCount, name, end}
+use Rattle.rules.specs.Rows.{rowCount, name}
 use Rattle.rules.specs.Class.{Class, labeled, goto, block, caseBlock, commBlock, code, oneOf, isBranch, base, following, class}
 use Rattle.rules.specs.Names.{pairCount, offset, len, namesOk, nameBytes, sameName}
 use Rattle.rules.specs.Refusals.{nameAllowed}
@@ -77,10 +77,6 @@ allowed-due c p zero d t = let z : false ≡ true = rw d at (and-true (leb 0 p) 
 allowed-due c p (suc n) d t = omega arith
 
 -- ---- the rows of a body
-
--- those of the body at root are rows
-pub body-row : {w p b : List ℕ} → Body w p b → (root r : ℕ) → root < rowCount w → r < end w root → r < rowCount w
-body-row body root r h l = omega (arith, body .sized .within root h)
 
 module _ {w p b : List ℕ} (body : Body w p b) (r : ℕ) (row : r < rowCount w) where
   pub name-within : name w r ≤ pairCount p

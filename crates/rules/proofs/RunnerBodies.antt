@@ -45,7 +45,7 @@ use Rattle.rules.proofs.Test.{clash, and-true}
 -- the four answers about a body: refusal, sheet, verdict, placing
 abbrev Answers : List ℕ → Option (ℕ × ℕ) → List Fault → Bool → Option ℕ → Type 0
 Answers w r l v o =
-    (refusal w pairs bytes ≡ r) × (sheet w pairs bytes 0 ≡ l) × (verdict w pairs bytes 0 ≡ v) × (placing w 0 ≡ o)
+    (refusal w pairs bytes ≡ r) × (sheet w pairs bytes ≡ l) × (verdict w pairs bytes ≡ v) × (placing w ≡ o)
 
 -- well-formed with an empty sheet, verdict yes and good placing
 abbrev Good : List ℕ → Type 0
@@ -56,103 +56,103 @@ module _ (w : List ℕ) where
   -- each choice is open where it is made, and leads on
   abbrev leadOn : State → List ℕ → Bool
   leadOn s [] = true
-  leadOn s (c ∷ cs) = ltb c (choices w pairs bytes 0 s) && elim (step w pairs bytes 0 s c) [ none ↦ false | some t ↦ leadOn t cs ]
+  leadOn s (c ∷ cs) = ltb c (choices w pairs bytes s) && elim (step w pairs bytes s c) [ none ↦ false | some t ↦ leadOn t cs ]
 
   -- the states that they lead to
   abbrev along : State → List ℕ → List State
   along s [] = []
-  along s (c ∷ cs) = elim (step w pairs bytes 0 s c) [ none ↦ [] | some t ↦ t ∷ along t cs ]
+  along s (c ∷ cs) = elim (step w pairs bytes s c) [ none ↦ [] | some t ↦ t ∷ along t cs ]
 
-  first-step : (s : State) (c : ℕ) (cs : List ℕ) (o : Option State) → step w pairs bytes 0 s c ≡ o → c < choices w pairs bytes 0 s
-      → elim o [ none ↦ false | some t ↦ leadOn t cs ] ≡ true → ((t : State) → leadOn t cs ≡ true → Walk w pairs bytes 0 t (along t cs))
-      → Walk w pairs bytes 0 s (elim o [ none ↦ [] | some t ↦ t ∷ along t cs ])
+  first-step : (s : State) (c : ℕ) (cs : List ℕ) (o : Option State) → step w pairs bytes s c ≡ o → c < choices w pairs bytes s
+      → elim o [ none ↦ false | some t ↦ leadOn t cs ] ≡ true → ((t : State) → leadOn t cs ≡ true → Walk w pairs bytes t (along t cs))
+      → Walk w pairs bytes s (elim o [ none ↦ [] | some t ↦ t ∷ along t cs ])
   first-step s c cs none f h e rest = absurd (clash (cc))
   first-step s c cs (some t) f h e rest = go c h f (rest t e)
 
-  pub by-choices : (s : State) (cs : List ℕ) → leadOn s cs ≡ true → Walk w pairs bytes 0 s (along s cs)
+  pub by-choices : (s : State) (cs : List ℕ) → leadOn s cs ≡ true → Walk w pairs bytes s (along s cs)
   by-choices s [] e = done
   by-choices s (c ∷ cs) e =
-      let x = and-true (ltb c (choices w pairs bytes 0 s)) (elim (step w pairs bytes 0 s c) [ none ↦ false | some t ↦ leadOn t cs ]) e in
-      first-step s c cs (step w pairs bytes 0 s c) refl (ltb-true c (choices w pairs bytes 0 s) (x .0)) (x .1) (λ t. by-choices t cs)
+      let x = and-true (ltb c (choices w pairs bytes s)) (elim (step w pairs bytes s c) [ none ↦ false | some t ↦ leadOn t cs ]) e in
+      first-step s c cs (step w pairs bytes s c) refl (ltb-true c (choices w pairs bytes s) (x .0)) (x .1) (λ t. by-choices t cs)
 
 -- ---- routes of good bodies
 
 -- L: for { switch { case: break L; default: return } }; return: out of the switch and the loop by the break, and on to the Return after the loop
-pub break-route : Good breakFromSwitch × Route breakFromSwitch pairs bytes 0 (at 0 ∷ at 1 ∷ at 2 ∷ at 3 ∷ at 4 ∷ at 6 ∷ at 7 ∷ at 10 ∷ stopped ∷ [])
+pub break-route : Good breakFromSwitch × Route breakFromSwitch pairs bytes (at 0 ∷ at 1 ∷ at 2 ∷ at 3 ∷ at 4 ∷ at 6 ∷ at 7 ∷ at 10 ∷ stopped ∷ [])
 unfolding computed
 break-route = ((refl, refl, refl, refl), (refl, by-choices breakFromSwitch (at 0) (0 ∷ 0 ∷ 0 ∷ 0 ∷ 0 ∷ 0 ∷ 0 ∷ 0 ∷ []) refl))
 
 -- the same body, by the default
-pub return-route : Good breakFromSwitch × Route breakFromSwitch pairs bytes 0 (at 0 ∷ at 1 ∷ at 2 ∷ at 3 ∷ at 4 ∷ at 8 ∷ at 9 ∷ stopped ∷ [])
+pub return-route : Good breakFromSwitch × Route breakFromSwitch pairs bytes (at 0 ∷ at 1 ∷ at 2 ∷ at 3 ∷ at 4 ∷ at 8 ∷ at 9 ∷ stopped ∷ [])
 unfolding computed
 return-route = ((refl, refl, refl, refl), (refl, by-choices breakFromSwitch (at 0) (0 ∷ 0 ∷ 0 ∷ 0 ∷ 1 ∷ 0 ∷ 0 ∷ []) refl))
 
 -- goto L; M: return; L: goto M: forward, back, and stopped
-pub goto-route : Good gotoAndBack × Route gotoAndBack pairs bytes 0 (at 0 ∷ at 1 ∷ at 4 ∷ at 5 ∷ at 2 ∷ at 3 ∷ stopped ∷ [])
+pub goto-route : Good gotoAndBack × Route gotoAndBack pairs bytes (at 0 ∷ at 1 ∷ at 4 ∷ at 5 ∷ at 2 ∷ at 3 ∷ stopped ∷ [])
 unfolding computed
 goto-route = ((refl, refl, refl, refl), (refl, by-choices gotoAndBack (at 0) (0 ∷ 0 ∷ 0 ∷ 0 ∷ 0 ∷ 0 ∷ []) refl))
 
 -- switch { case: fallthrough; default: return }: through the fallthrough into the next Case
-pub fallthrough-route : Good fallIntoDefault × Route fallIntoDefault pairs bytes 0 (at 0 ∷ at 1 ∷ at 3 ∷ at 4 ∷ at 5 ∷ at 6 ∷ stopped ∷ [])
+pub fallthrough-route : Good fallIntoDefault × Route fallIntoDefault pairs bytes (at 0 ∷ at 1 ∷ at 3 ∷ at 4 ∷ at 5 ∷ at 6 ∷ stopped ∷ [])
 unfolding computed
 fallthrough-route = ((refl, refl, refl, refl), (refl, by-choices fallIntoDefault (at 0) (0 ∷ 0 ∷ 0 ∷ 0 ∷ 0 ∷ 0 ∷ []) refl))
 
 -- for { select { comm: return; comm: } }: twice round the loop by the Comm without items, then by the first Comm to the Return
-pub select-route : Good selectInLoop × Route selectInLoop pairs bytes 0
+pub select-route : Good selectInLoop × Route selectInLoop pairs bytes
     (at 0 ∷ at 1 ∷ at 2 ∷ at 3 ∷ at 7 ∷ at 1 ∷ at 2 ∷ at 3 ∷ at 7 ∷ at 1 ∷ at 2 ∷ at 3 ∷ at 5 ∷ at 6 ∷ stopped ∷ [])
 unfolding computed
 select-route = ((refl, refl, refl, refl), (refl, by-choices selectInLoop (at 0) (0 ∷ 0 ∷ 0 ∷ 1 ∷ 0 ∷ 0 ∷ 0 ∷ 1 ∷ 0 ∷ 0 ∷ 0 ∷ 0 ∷ 0 ∷ 0 ∷ []) refl))
 
 -- switch { case: default: return }; return: past the Case without items, after the switch and not into the next Case
-pub past-switch-route : Good pastSwitch × Route pastSwitch pairs bytes 0 (at 0 ∷ at 1 ∷ at 3 ∷ at 6 ∷ stopped ∷ [])
+pub past-switch-route : Good pastSwitch × Route pastSwitch pairs bytes (at 0 ∷ at 1 ∷ at 3 ∷ at 6 ∷ stopped ∷ [])
 unfolding computed
 past-switch-route = ((refl, refl, refl, refl), (refl, by-choices pastSwitch (at 0) (0 ∷ 0 ∷ 0 ∷ 0 ∷ []) refl))
 
 -- switch { case: return }; return: without a default the switch goes on by the choice past its Cases
-pub goes-on-route : Good switchGoesOn × Route switchGoesOn pairs bytes 0 (at 0 ∷ at 1 ∷ at 5 ∷ stopped ∷ [])
+pub goes-on-route : Good switchGoesOn × Route switchGoesOn pairs bytes (at 0 ∷ at 1 ∷ at 5 ∷ stopped ∷ [])
 unfolding computed
 goes-on-route = ((refl, refl, refl, refl), (refl, by-choices switchGoesOn (at 0) (0 ∷ 1 ∷ 0 ∷ []) refl))
 
 -- L: for { for c { continue L } }: by the continue to the outer loop again, then past the inner loop to it
 pub continue-route : Good continueOuter
-    × Route continueOuter pairs bytes 0 (at 0 ∷ at 1 ∷ at 2 ∷ at 3 ∷ at 4 ∷ at 5 ∷ at 6 ∷ at 2 ∷ at 3 ∷ at 4 ∷ at 2 ∷ [])
+    × Route continueOuter pairs bytes (at 0 ∷ at 1 ∷ at 2 ∷ at 3 ∷ at 4 ∷ at 5 ∷ at 6 ∷ at 2 ∷ at 3 ∷ at 4 ∷ at 2 ∷ [])
 unfolding computed
 continue-route = ((refl, refl, refl, refl), (refl, by-choices continueOuter (at 0) (0 ∷ 0 ∷ 0 ∷ 0 ∷ 1 ∷ 0 ∷ 0 ∷ 0 ∷ 0 ∷ 0 ∷ []) refl))
 
 -- select { comm: return; default: }; return: by the default, which has no items, after the Select
-pub default-route : Good emptyDefault × Route emptyDefault pairs bytes 0 (at 0 ∷ at 1 ∷ at 5 ∷ at 6 ∷ stopped ∷ [])
+pub default-route : Good emptyDefault × Route emptyDefault pairs bytes (at 0 ∷ at 1 ∷ at 5 ∷ at 6 ∷ stopped ∷ [])
 unfolding computed
 default-route = ((refl, refl, refl, refl), (refl, by-choices emptyDefault (at 0) (0 ∷ 1 ∷ 0 ∷ 0 ∷ []) refl))
 
 -- ---- a name that is declared twice
 
 -- { L: return }; goto L; L: return: the goto goes to the second label, which it binds to, and not to the declared one
-pub goto-binds : (step body9 pairs bytes 0 (at 4) 0 ≡ some (at 5)) × (getD (bindings body9 pairs bytes 0) 4 0 ≡ 6)
+pub goto-binds : (step body9 pairs bytes (at 4) 0 ≡ some (at 5)) × (getD (bindings body9 pairs bytes) 4 0 ≡ 6)
 unfolding computed
 goto-binds = (refl, refl)
 
 -- goto L; { L: return }: the goto binds to no label, and is stuck
-pub goto-unbound : (choices body7 pairs bytes 0 (at 1) ≡ 1) × (step body7 pairs bytes 0 (at 1) 0 ≡ none)
+pub goto-unbound : (choices body7 pairs bytes (at 1) ≡ 1) × (step body7 pairs bytes (at 1) 0 ≡ none)
 unfolding computed
 goto-unbound = (refl, refl)
 
 -- L: for { L: for { break L } }: the break leaves the inner loop, and so goes round the outer one; a continue goes to the inner one
-pub innermost-left : (step breakOfTwo pairs bytes 0 (at 7) 0 ≡ some (at 2)) × (step continueOfTwo pairs bytes 0 (at 7) 0 ≡ some (at 5))
+pub innermost-left : (step breakOfTwo pairs bytes (at 7) 0 ≡ some (at 2)) × (step continueOfTwo pairs bytes (at 7) 0 ≡ some (at 5))
 unfolding computed
 innermost-left = (refl, refl)
 
 -- ---- L: for {}; for { break L }: the break is stuck, since the statement with that label has ended
-pub ended-stuck : (choices body2 pairs bytes 0 (at 6) ≡ 1) × (step body2 pairs bytes 0 (at 6) 0 ≡ none)
+pub ended-stuck : (choices body2 pairs bytes (at 6) ≡ 1) × (step body2 pairs bytes (at 6) 0 ≡ none)
 unfolding computed
 ended-stuck = (refl, refl)
 
 -- ---- each premise of the route law is needed
 
-pub brace-unsafe : (w : List ℕ) → Safe w pairs bytes 0 brace → ⊥
+pub brace-unsafe : (w : List ℕ) → Safe w pairs bytes brace → ⊥
 brace-unsafe w s = s .inside refl
 
 -- a row with a choice that leads nowhere
-pub stuck-unsafe : (w : List ℕ) (r : ℕ) → 0 < choices w pairs bytes 0 (at r) → step w pairs bytes 0 (at r) 0 ≡ none → Safe w pairs bytes 0 (at r) → ⊥
+pub stuck-unsafe : (w : List ℕ) (r : ℕ) → 0 < choices w pairs bytes (at r) → step w pairs bytes (at r) 0 ≡ none → Safe w pairs bytes (at r) → ⊥
 stuck-unsafe w r h e s = elim (s .goes-on) [
   | inl z ↦ absurd (clash (cc))
   | inr (k, f) ↦ let (t, z) = f 0 h in absurd (clash (cc))
@@ -160,10 +160,10 @@ stuck-unsafe w r h e s = elim (s .goes-on) [
 
 -- the route by l comes to the closing brace, or to the row r, which is stuck
 abbrev AtBrace : List ℕ → List State → Type 0
-AtBrace w l = Route w pairs bytes 0 (l ++ brace ∷ []) × (Safe w pairs bytes 0 brace → ⊥)
+AtBrace w l = Route w pairs bytes (l ++ brace ∷ []) × (Safe w pairs bytes brace → ⊥)
 
 abbrev StuckAt : List ℕ → List State → ℕ → Type 0
-StuckAt w l r = Route w pairs bytes 0 (l ++ at r ∷ []) × (Safe w pairs bytes 0 (at r) → ⊥)
+StuckAt w l r = Route w pairs bytes (l ++ at r ∷ []) × (Safe w pairs bytes (at r) → ⊥)
 
 -- verdict yes: no items
 pub verdict-needed : Answers body10 none [] false none × AtBrace body10 (at 0 ∷ [])

@@ -9,7 +9,7 @@ use mathlib.Core.Option.{some}
 use Prim.Native.Nat.{ℕ, suc, _<_}
 use native.Mathlib.Omega.{arith}
 use native.Mathlib.Decide.{decLt}
-use Rattle.rules.specs.Rows.{rowCount, name, size, InBody}
+use Rattle.rules.specs.Rows.{rowCount, name}
 use Rattle.rules.specs.Class.{labeled, break, continue, goto, fallthrough, declaration, isBranch, isBreakable, isLoop, class}
 use Rattle.rules.specs.Names.{isBlank}
 use Rattle.rules.specs.Refusals.{WellFormed}
@@ -39,73 +39,66 @@ module _ (w p b : List ℕ) where
   Named-by-a-branch = (r : ℕ) → A-label r → (g : ℕ) × (g < rowCount w) × (isBranch (class w g) ≡ true) × (sameNames w p b g r ≡ true)
 
   abbrev Breaks-leave : Type 0
-  Breaks-leave = (g : ℕ) → g < rowCount w → class w g ≡ break → 0 < name w g → (t : ℕ) × (target w p b 0 g ≡ some t) × (isBreakable (class w (suc t)) ≡ true)
+  Breaks-leave = (g : ℕ) → g < rowCount w → class w g ≡ break → 0 < name w g → (t : ℕ) × (target w p b g ≡ some t) × (isBreakable (class w (suc t)) ≡ true)
 
   abbrev Continues-loop : Type 0
-  Continues-loop = (g : ℕ) → g < rowCount w → class w g ≡ continue → 0 < name w g → (t : ℕ) × (target w p b 0 g ≡ some t) × (isLoop (class w (suc t)) ≡ true)
+  Continues-loop = (g : ℕ) → g < rowCount w → class w g ≡ continue → 0 < name w g → (t : ℕ) × (target w p b g ≡ some t) × (isLoop (class w (suc t)) ≡ true)
 
   abbrev Gotos-land : Type 0
-  Gotos-land = (g : ℕ) → g < rowCount w → class w g ≡ goto → (r : ℕ) × A-label r × (sameNames w p b r g ≡ true) × (inListOf w 0 r g ≡ true)
-      × ((d : ℕ) → g < d → d < r → class w d ≡ declaration → listOf w 0 d ≡ listOf w 0 r → ⊥)
+  Gotos-land = (g : ℕ) → g < rowCount w → class w g ≡ goto → (r : ℕ) × A-label r × (sameNames w p b r g ≡ true) × (inListOf w r g ≡ true)
+      × ((d : ℕ) → g < d → d < r → class w d ≡ declaration → listOf w d ≡ listOf w r → ⊥)
 
   abbrev No-labelled-fallthrough : Type 0
   No-labelled-fallthrough = (g : ℕ) → g < rowCount w → class w g ≡ fallthrough → name w g ≡ 0
 
-  -- ---- rows of the body at row 0 are the rows lent
   module _ (wf : WellFormed w p b) where
-    size-all : size w 0 ≡ rowCount w
-    size-all = facts.body w p b wf .root-size
+    a-label : {r : ℕ} → A-label r → Label w p b r
+    a-label (h, e, n) = record { row = h; labels = e; not-blank = n }
 
-    in-body : (r : ℕ) → r < rowCount w → InBody w 0 r
-    in-body r h = (omega arith, omega (arith, size-all))
-
-    a-label : {r : ℕ} → A-label r → Label w p b 0 r
-    a-label {r} (h, e, n) = record { row = in-body r h; labels = e; not-blank = n }
-
-    label-a : {r : ℕ} → Label w p b 0 r → A-label r
-    label-a l = (omega (arith, size-all, l .row .1), l .labels, l .not-blank)
+    label-a : {r : ℕ} → Label w p b r → A-label r
+    label-a l = (l .row, l .labels, l .not-blank)
 
     -- ---- from an empty sheet
-    module _ (empty : sheet w p b 0 ≡ []) where
-      lawful : AllLawful w p b 0
+    module _ (empty : sheet w p b ≡ []) where
+      lawful : AllLawful w p b
       lawful = sheet-law w p b wf .0 empty
 
       pub empty-once : Once
       empty-once r s x y e = lawful .once r (a-label x) s (a-label y) e
 
       pub empty-named : Named-by-a-branch
-      empty-named r x = let (g, i, t, s) = lawful .named r (a-label x) in (g, omega (arith, size-all, i .1), t, s)
+      empty-named r x = let (g, i, t, s) = lawful .named r (a-label x) in (g, i, t, s)
 
       pub empty-breaks : Breaks-leave
       empty-breaks g h e n =
-          let (t, f, u) = of-break (lawful .destinations g (in-body g h) (rw e) n) (rw e) in
+          let (t, f, u) = of-break (lawful .destinations g h (rw e) n) (rw e) in
           (t, f, rw e at u)
 
       pub empty-continues : Continues-loop
       empty-continues g h e n =
-          let (t, f, u) = of-break (lawful .destinations g (in-body g h) (rw e) n) (rw e) in
+          let (t, f, u) = of-break (lawful .destinations g h (rw e) n) (rw e) in
           (t, f, rw e at u)
 
       pub empty-gotos : Gotos-land
       empty-gotos g h e =
-          let (r, l, s, i, free) = of-goto (lawful .destinations g (in-body g h) (rw e) (goto-named (facts.body w p b wf) g h e)) e in
+          let (r, l, s, i, free) = of-goto (lawful .destinations g h (rw e) (goto-named (facts.body w p b wf) g h e)) e in
           (r, label-a l, s, i, free)
 
       pub empty-fallthrough : No-labelled-fallthrough
       empty-fallthrough g h e = elim (decLt 0 (name w g)) [
-        | yes n ↦ absurd (of-fallthrough (lawful .destinations g (in-body g h) (rw e) n) e)
+        | yes n ↦ absurd (of-fallthrough (lawful .destinations g h (rw e) n) e)
         | no n ↦ omega arith
       ]
 
     -- ---- and back
-    pub lawful-empty : Once → Named-by-a-branch → Breaks-leave → Continues-loop → Gotos-land → No-labelled-fallthrough → sheet w p b 0 ≡ []
+    pub lawful-empty : Once → Named-by-a-branch → Breaks-leave → Continues-loop → Gotos-land → No-labelled-fallthrough → sheet w p b ≡ []
     lawful-empty once named breaks continues gotos falls = sheet-law w p b wf .1 (record {
       once = λ r x s y e. once r s (label-a x) (label-a y) e;
-      named = λ r x. let (g, h, t, s) = named r (label-a x) in (g, in-body g h, t, s);
-      destinations = λ g i t n. destination g (omega (arith, size-all, i .1)) t n;
+      named = λ r x. let (g, h, t, s) = named r (label-a x) in (g, h, t, s);
+      destinations = λ g i t n. destination g i t n;
     })
       where
-        destination : (g : ℕ) → g < rowCount w → isBranch (class w g) ≡ true → 0 < name w g → Lawful w p b 0 g
+        destination : (g : ℕ) → g < rowCount w → isBranch (class w g) ≡ true → 0 < name w g → Lawful w p b g
         destination g h t n = by-branch (class w g) t
             (λ e. let (k, f, u) = breaks g h e n in lawful-break e (k, f, rw e u))
             (λ e. let (k, f, u) = continues g h e n in lawful-continue e (k, f, rw e u))
@@ -115,11 +108,11 @@ module _ (w p b : List ℕ) where
 -- ---- on bodies
 
 -- L: for { break L }
-lawful-body1 : AllLawful body1 pairs bytes 0
+lawful-body1 : AllLawful body1 pairs bytes
 unfolding computed
 lawful-body1 = sheet-law body1 pairs bytes refl .0 refl
 
 -- goto L; x := 1; L: return
-not-lawful : AllLawful body6 pairs bytes 0 → ⊥
+not-lawful : AllLawful body6 pairs bytes → ⊥
 unfolding computed
 not-lawful all = let e = sheet-law body6 pairs bytes refl .1 all in clash (cc)

@@ -10,7 +10,7 @@ use Prim.Native.Nat.{ℕ, zero, suc, _+_, _≤_, _<_}
 use native.Mathlib.Omega.{arith}
 use native.Mathlib.Decide.{ℕ-discrete, decLt}
 use lib.Dec.{ltb, leb, eqb}
-use borrow.Author.Tests.{ltb-true, lt-ltb, le-ltb, le-leb, lt-leb, eq-eqb, ne-eqb}
+use borrow.Author.Tests.{ltb-true, lt-ltb, le-ltb, eq-eqb, ne-eqb}
 use Rattle.rules.specs.Scan.{lowest}
 use Rattle.rules.specs.Rows.{rowCount, kind, detail, name, size, end, parent, Item, here, later, Child}
 use Rattle.rules.specs.Body.{Sized, OneChild, Body}
@@ -81,7 +81,7 @@ use Rattle.rules.specs.Runner.{
   Route,
 }
 use Rattle.rules.proofs.Test.{case-of, case-found, clash, or-true, or-false, and-true}
-use Rattle.rules.proofs.Scan.{lowest-found, highest-found, highest-last, highest-none}
+use Rattle.rules.proofs.Scan.{highest-found, highest-last, highest-none}
 use Rattle.rules.proofs.Every.{every, same, same-eq, of-classes, is-class}
 use Rattle.rules.proofs.Details.{of-allowed}
 use Rattle.rules.proofs.LabelRows.{other-label}
@@ -177,22 +177,22 @@ plain-kinds w zero t = plain-pair (kind w 0) (detail w 0) t
 plain-kinds w (suc q) t = follows-plain (base w q) (base w (suc q)) ∙ plain-pair (kind w (suc q)) (detail w (suc q)) t
 
 -- ---- the steps from row r
-module _ (w p b : List ℕ) (root r : ℕ) where
+module _ (w p b : List ℕ) (r : ℕ) where
   -- one choice, which leads to o (none where the runner is stuck)
   abbrev pub OneWay : Option State → Type 0
-  OneWay o = (choices w p b root (at r) ≡ 1) × ((c : ℕ) → step w p b root (at r) c ≡ o)
+  OneWay o = (choices w p b (at r) ≡ 1) × ((c : ℕ) → step w p b (at r) c ≡ o)
 
   -- two choices: 1 leads to s, 0 to t
   abbrev pub TwoWays : State → State → Type 0
-  TwoWays s t = (choices w p b root (at r) ≡ 2) × (step w p b root (at r) 1 ≡ some s) × (step w p b root (at r) 0 ≡ some t)
+  TwoWays s t = (choices w p b (at r) ≡ 2) × (step w p b (at r) 1 ≡ some s) × (step w p b (at r) 0 ≡ some t)
 
   abbrev OneWayAs : Option State → Class → Type 0
-  OneWayAs o k = (choicesAs w p b root k r ≡ 1) × ((c : ℕ) → stepAs w p b root k r c ≡ o)
+  OneWayAs o k = (choicesAs w p b k r ≡ 1) × ((c : ℕ) → stepAs w p b k r c ≡ o)
 
   -- "Plain rows (0, 1, 2, 4 without panic, 5 to 9) go on."
-  pub plain-goes-on : isPlain (class w r) ≡ true → OneWay (some (after w root r))
+  pub plain-goes-on : isPlain (class w r) ≡ true → OneWay (some (after w r))
   unfolding choices step
-  plain-goes-on t = at-one-of (OneWayAs (some (after w root r))) (plain ∷ declaration ∷ empty ∷ [])
+  plain-goes-on t = at-one-of (OneWayAs (some (after w r))) (plain ∷ declaration ∷ empty ∷ [])
       ((refl, λ c. refl), ((refl, λ c. refl), ((refl, λ c. refl), tt))) (class w r) t
 
   -- "Return and panic stop."
@@ -206,19 +206,19 @@ module _ (w p b : List ℕ) (root r : ℕ) where
   labeled-enters e = rw e (refl, λ c. refl)
 
   -- "Block, Case and Comm then go to their first item, or past the list's end if they have none."
-  list-enters : isList (class w r) ≡ true → OneWay (some (enter w p b root r))
+  list-enters : isList (class w r) ≡ true → OneWay (some (enter w p b r))
   unfolding choices step
-  list-enters t = at-one-of (OneWayAs (some (enter w p b root r))) (block ∷ case ∷ defaultCase ∷ comm ∷ defaultComm ∷ [])
+  list-enters t = at-one-of (OneWayAs (some (enter w p b r))) (block ∷ case ∷ defaultCase ∷ comm ∷ defaultComm ∷ [])
       ((refl, λ c. refl), ((refl, λ c. refl), ((refl, λ c. refl), ((refl, λ c. refl), ((refl, λ c. refl), tt))))) (class w r) t
 
   pub list-first-item : isList (class w r) ≡ true → 1 < size w r → OneWay (some (at (suc r)))
   list-first-item t h = rw (lt-ltb 1 (size w r) h, enter) at (list-enters t)
 
-  pub list-without-items : isList (class w r) ≡ true → size w r ≤ 1 → OneWay (some (after w root r))
+  pub list-without-items : isList (class w r) ≡ true → size w r ≤ 1 → OneWay (some (after w r))
   list-without-items t h = rw (le-ltb 1 (size w r) h, enter) at (list-enters t)
 
   -- "If takes its body, or its else, or without one goes on."
-  pub if-ways : class w r ≡ if → TwoWays (at (suc r)) (after w root r)
+  pub if-ways : class w r ≡ if → TwoWays (at (suc r)) (after w r)
   unfolding choices step
   if-ways e = rw e (refl, refl, refl)
 
@@ -227,7 +227,7 @@ module _ (w p b : List ℕ) (root r : ℕ) where
   if-else-ways e = rw e (refl, refl, refl)
 
   -- "For with condition and Range take the body or go on; For without takes the body."
-  pub for-condition-ways : class w r ≡ forCond → TwoWays (at (suc r)) (after w root r)
+  pub for-condition-ways : class w r ≡ forCond → TwoWays (at (suc r)) (after w r)
   unfolding choices step
   for-condition-ways e = rw e (refl, refl, refl)
 
@@ -236,35 +236,35 @@ module _ (w p b : List ℕ) (root r : ℕ) where
   for-enters e = rw e (refl, λ c. refl)
 
   -- "A switch takes any Case, or goes on if no default."
-  switch-step : isSwitch (class w r) ≡ true → (c : ℕ) → step w p b root (at r) c ≡ some (clause w p b root r c (after w root r))
+  switch-step : isSwitch (class w r) ≡ true → (c : ℕ) → step w p b (at r) c ≡ some (clause w p b r c (after w r))
   unfolding step
-  switch-step t c = at-one-of (λ k. stepAs w p b root k r c ≡ some (clause w p b root r c (after w root r))) (switch ∷ typeSwitch ∷ [])
+  switch-step t c = at-one-of (λ k. stepAs w p b k r c ≡ some (clause w p b r c (after w r))) (switch ∷ typeSwitch ∷ [])
       (refl, (refl, tt)) (class w r) t
 
-  switch-choices : isSwitch (class w r) ≡ true → choices w p b root (at r) ≡ choicesAs w p b root switch r
+  switch-choices : isSwitch (class w r) ≡ true → choices w p b (at r) ≡ choicesAs w p b switch r
   unfolding choices
-  switch-choices t = at-one-of (λ k. choicesAs w p b root k r ≡ choicesAs w p b root switch r) (switch ∷ typeSwitch ∷ []) (refl, (refl, tt)) (class w r) t
+  switch-choices t = at-one-of (λ k. choicesAs w p b k r ≡ choicesAs w p b switch r) (switch ∷ typeSwitch ∷ []) (refl, (refl, tt)) (class w r) t
 
-  pub switch-takes : isSwitch (class w r) ≡ true → (c : ℕ) → c < clauseCount w r → step w p b root (at r) c ≡ some (at (itemAt w (suc (suc r)) c))
+  pub switch-takes : isSwitch (class w r) ≡ true → (c : ℕ) → c < clauseCount w r → step w p b (at r) c ≡ some (at (itemAt w (suc (suc r)) c))
   switch-takes t c h = rw (lt-ltb c (clauseCount w r) h, clause) at (switch-step t c)
 
-  pub switch-with-default : isSwitch (class w r) ≡ true → hasDefault w r ≡ true → choices w p b root (at r) ≡ clauseCount w r
+  pub switch-with-default : isSwitch (class w r) ≡ true → hasDefault w r ≡ true → choices w p b (at r) ≡ clauseCount w r
   switch-with-default t d = rw (d, choicesAs) at (switch-choices t)
 
   pub switch-without-default : isSwitch (class w r) ≡ true → hasDefault w r ≡ false
-      → (choices w p b root (at r) ≡ suc (clauseCount w r)) × (step w p b root (at r) (clauseCount w r) ≡ some (after w root r))
+      → (choices w p b (at r) ≡ suc (clauseCount w r)) × (step w p b (at r) (clauseCount w r) ≡ some (after w r))
   switch-without-default t d =
       (rw (d, choicesAs) at (switch-choices t), rw (le-ltb (clauseCount w r) (clauseCount w r) (omega arith), clause) at (switch-step t (clauseCount w r)))
 
   -- "Select takes any Comm; empty, it stops."
-  select-step : class w r ≡ select → (c : ℕ) → step w p b root (at r) c ≡ some (clause w p b root r c stopped)
+  select-step : class w r ≡ select → (c : ℕ) → step w p b (at r) c ≡ some (clause w p b r c stopped)
   unfolding step
   select-step e c = rw e
 
-  pub select-takes : class w r ≡ select → (c : ℕ) → c < clauseCount w r → step w p b root (at r) c ≡ some (at (itemAt w (suc (suc r)) c))
+  pub select-takes : class w r ≡ select → (c : ℕ) → c < clauseCount w r → step w p b (at r) c ≡ some (at (itemAt w (suc (suc r)) c))
   select-takes e c h = rw (lt-ltb c (clauseCount w r) h, clause) at (select-step e c)
 
-  pub select-choices : class w r ≡ select → 0 < clauseCount w r → choices w p b root (at r) ≡ clauseCount w r
+  pub select-choices : class w r ≡ select → 0 < clauseCount w r → choices w p b (at r) ≡ clauseCount w r
   unfolding choices
   select-choices e h = rw e (at-least-one (clauseCount w r) h)
     where
@@ -279,11 +279,11 @@ module _ (w p b : List ℕ) (root r : ℕ) where
 
   -- "any Case" and "any Comm": in a body each clause is taken by some choice, and the clauses are all that is taken
   abbrev pub TakesAny : Type 0
-  TakesAny = ((s : ℕ) → Child w (suc r) s → (c : ℕ) × (c < choices w p b root (at r)) × (step w p b root (at r) c ≡ some (at s)))
+  TakesAny = ((s : ℕ) → Child w (suc r) s → (c : ℕ) × (c < choices w p b (at r)) × (step w p b (at r) c ≡ some (at s)))
       × ((c : ℕ) → c < clauseCount w r → Child w (suc r) (itemAt w (suc (suc r)) c))
 
-  takes-any : Sized w → r < rowCount w → OneChild w r → clauseCount w r ≤ choices w p b root (at r)
-      → ((c : ℕ) → c < clauseCount w r → step w p b root (at r) c ≡ some (at (itemAt w (suc (suc r)) c))) → TakesAny
+  takes-any : Sized w → r < rowCount w → OneChild w r → clauseCount w r ≤ choices w p b (at r)
+      → ((c : ℕ) → c < clauseCount w r → step w p b (at r) c ≡ some (at (itemAt w (suc (suc r)) c))) → TakesAny
   unfolding clauseCount
   takes-any sized row (l, e) many takes = (
     λ s i.
@@ -314,9 +314,9 @@ not-both false c e = refl
 list-next : (c : Class) → isList c ≡ true → onward c ≡ next
 list-next = at-one-of (λ c. onward c ≡ next) (block ∷ case ∷ defaultCase ∷ comm ∷ defaultComm ∷ []) (refl, (refl, (refl, (refl, (refl, tt)))))
 
-module _ (w : List ℕ) (root : ℕ) where
+module _ (w : List ℕ) where
   -- climbing passes the rows that are not around s
-  pub climb-past : (n k s : ℕ) → k < n → ((j : ℕ) → k < j → j < n → around w root s j ≡ false) → climb w root n s ≡ climb w root (suc k) s
+  pub climb-past : (n k s : ℕ) → k < n → ((j : ℕ) → k < j → j < n → around w s j ≡ false) → climb w n s ≡ climb w (suc k) s
   unfolding climb
   climb-past zero k s h out = absurd (omega arith)
   climb-past (suc n) k s h out = elim (ℕ-discrete k n) [
@@ -325,157 +325,157 @@ module _ (w : List ℕ) (root : ℕ) where
   ]
 
   -- and where none is around s it comes to the closing brace
-  pub climb-out : (n s : ℕ) → ((j : ℕ) → j < n → around w root s j ≡ false) → climb w root n s ≡ brace
+  pub climb-out : (n s : ℕ) → ((j : ℕ) → j < n → around w s j ≡ false) → climb w n s ≡ brace
   unfolding climb
   climb-out zero s out = refl
   climb-out (suc n) s out = rw (out n (omega arith), climb) (climb-out n s (λ j l. out j (omega arith)))
 
-  -- the row s in the body, and its parent k
-  module _ (s k : ℕ) (e : parent w s ≡ some k) (inside : root ≤ k) where
-    around-parent : around w root s k ≡ true
+  -- the row s and its parent k
+  module _ (s k : ℕ) (e : parent w s ≡ some k) where
+    around-parent : around w s k ≡ true
     unfolding parent
-    around-parent = rw (le-leb root k inside) (highest-found (λ q. ltb s (end w q)) s k e .1)
+    around-parent = highest-found (λ q. ltb s (end w q)) s k e .1
 
-    to-parent : after w root s ≡ climb w root (suc k) s
+    to-parent : after w s ≡ climb w (suc k) s
     unfolding after parent
     to-parent = climb-past s k s (highest-found (λ q. ltb s (end w q)) s k e .0)
-        (λ j a l. not-both (leb root j) (ltb s (end w j)) (highest-last (λ q. ltb s (end w q)) s k j e a l))
+        (λ j a l. highest-last (λ q. ltb s (end w q)) s k j e a l)
 
     -- "Going on: the next item;"
-    pub next-item : isList (class w k) ≡ true → end w s < end w k → after w root s ≡ at (end w s)
+    pub next-item : isList (class w k) ≡ true → end w s < end w k → after w s ≡ at (end w s)
     unfolding climb
     next-item t h = to-parent ∙ rw (around-parent, list-next (class w k) t, lt-ltb (end w s) (end w k) h, climb)
 
     -- "past a list's end, after its Block,"
-    pub past-list : isList (class w k) ≡ true → end w k ≤ end w s → after w root s ≡ after w root k
+    pub past-list : isList (class w k) ≡ true → end w k ≤ end w s → after w s ≡ after w k
     unfolding climb after
     past-list t h = to-parent ∙ rw (around-parent, list-next (class w k) t, le-ltb (end w s) (end w k) h, climb)
 
     -- "past a For or Range body, that row again;"
-    pub past-loop-body : isLoop (class w k) ≡ true → after w root s ≡ at k
+    pub past-loop-body : isLoop (class w k) ≡ true → after w s ≡ at k
     unfolding climb
     past-loop-body t = to-parent ∙ rw (around-parent, t, climb, onward)
 
     -- past a row below any other class
-    past-up : (ds : List Class) → AtEach (λ c. onward c ≡ up) ds → oneOf ds (class w k) ≡ true → after w root s ≡ after w root k
+    past-up : (ds : List Class) → AtEach (λ c. onward c ≡ up) ds → oneOf ds (class w k) ≡ true → after w s ≡ after w k
     unfolding climb after
     past-up ds h t = to-parent ∙ rw (around-parent, at-one-of (λ c. onward c ≡ up) ds h (class w k) t, climb)
 
     -- "past If or Labeled, after it;"
-    pub past-if-or-labeled : oneOf (if ∷ ifElse ∷ labeled ∷ []) (class w k) ≡ true → after w root s ≡ after w root k
+    pub past-if-or-labeled : oneOf (if ∷ ifElse ∷ labeled ∷ []) (class w k) ≡ true → after w s ≡ after w k
     past-if-or-labeled = past-up (if ∷ ifElse ∷ labeled ∷ []) (refl, (refl, (refl, tt)))
 
   -- "or after the switch or Select for a clause;": the clause s, the Block k and the switch or Select r
-  pub past-clause : (s k r : ℕ) → parent w s ≡ some k → parent w k ≡ some r → root ≤ r → oneOf (caseBlock ∷ commBlock ∷ []) (class w k) ≡ true
-      → oneOf (switch ∷ typeSwitch ∷ select ∷ []) (class w r) ≡ true → after w root s ≡ after w root r
+  pub past-clause : (s k r : ℕ) → parent w s ≡ some k → parent w k ≡ some r → oneOf (caseBlock ∷ commBlock ∷ []) (class w k) ≡ true
+      → oneOf (switch ∷ typeSwitch ∷ select ∷ []) (class w r) ≡ true → after w s ≡ after w r
   unfolding parent
-  past-clause s k r e f inside t u =
-      past-up s k e (omega (arith, highest-found (λ q. ltb k (end w q)) k r f .0)) (caseBlock ∷ commBlock ∷ []) (refl, (refl, tt)) t
-      ∙ past-up k r f inside (switch ∷ typeSwitch ∷ select ∷ []) (refl, (refl, (refl, tt))) u
+  past-clause s k r e f t u =
+      past-up s k e (caseBlock ∷ commBlock ∷ []) (refl, (refl, tt)) t
+      ∙ past-up k r f (switch ∷ typeSwitch ∷ select ∷ []) (refl, (refl, (refl, tt))) u
 
   -- "past row 0, the closing brace."
-  pub past-root : after w root root ≡ brace
+  pub past-root : after w 0 ≡ brace
   unfolding after
-  past-root = climb-out root root (λ j l. rw (lt-leb root j l))
+  past-root = climb-out 0 0 (λ j l. absurd (omega arith))
 
 -- ---- the branches
-module _ (w p b : List ℕ) (root r : ℕ) where
+module _ (w p b : List ℕ) (r : ℕ) where
   -- "Break goes on after the statement it refers to,"
-  pub break-goes : (s : ℕ) → class w r ≡ break → breakTo w p b root r ≡ some s → OneWay w p b root r (some (after w root s))
+  pub break-goes : (s : ℕ) → class w r ≡ break → breakTo w p b r ≡ some s → OneWay w p b r (some (after w s))
   unfolding choices step
   break-goes s e f = rw e (refl, λ c. rw f)
 
   -- "continue to the For or Range its label is directly on or, unlabelled, to the innermost around it,"
-  pub continue-goes : (s : ℕ) → class w r ≡ continue → continueTo w p b root r ≡ some s → OneWay w p b root r (some (at s))
+  pub continue-goes : (s : ℕ) → class w r ≡ continue → continueTo w p b r ≡ some s → OneWay w p b r (some (at s))
   unfolding choices step
   continue-goes s e f = rw e (refl, λ c. rw f)
 
   -- "goto to its labelled row,"
-  pub goto-goes : (s : ℕ) → class w r ≡ goto → gotoTo w p b root r ≡ some s → OneWay w p b root r (some (at s))
+  pub goto-goes : (s : ℕ) → class w r ≡ goto → gotoTo w p b r ≡ some s → OneWay w p b r (some (at s))
   unfolding choices step
   goto-goes s e f = rw e (refl, λ c. rw f)
 
   -- "fallthrough into the next Case."
-  pub fallthrough-goes : (s : ℕ) → class w r ≡ fallthrough → nextCase w root r ≡ some s → OneWay w p b root r (some (at s))
+  pub fallthrough-goes : (s : ℕ) → class w r ≡ fallthrough → nextCase w r ≡ some s → OneWay w p b r (some (at s))
   unfolding choices step
   fallthrough-goes s e f = rw e (refl, λ c. rw f)
 
   -- these places: of a break a statement that it refers to, and none only where it refers to none
-  pub break-refers : (s : ℕ) → breakTo w p b root r ≡ some s → refersTo w p b root r s ≡ true
+  pub break-refers : (s : ℕ) → breakTo w p b r ≡ some s → refersTo w p b r s ≡ true
   unfolding breakTo
-  break-refers s e = highest-found (refersTo w p b root r) r s e .1
+  break-refers s e = highest-found (refersTo w p b r) r s e .1
 
-  pub break-refers-to-none : breakTo w p b root r ≡ none → (s : ℕ) → s < r → refersTo w p b root r s ≡ false
+  pub break-refers-to-none : breakTo w p b r ≡ none → (s : ℕ) → s < r → refersTo w p b r s ≡ false
   unfolding breakTo
-  break-refers-to-none e s l = highest-none (refersTo w p b root r) r s e l
+  break-refers-to-none e s l = highest-none (refersTo w p b r) r s e l
 
   -- of a continue the innermost loop around it or, with a label, a loop that the label is directly on
-  pub continue-unlabelled : name w r ≡ 0 → continueTo w p b root r ≡ innermost w root isLoop r
+  pub continue-unlabelled : name w r ≡ 0 → continueTo w p b r ≡ innermost w isLoop r
   unfolding continueTo
   continue-unlabelled z = rw (eq-eqb (name w r) 0 z, continueTo)
 
-  pub continue-labelled : (s : ℕ) → 0 < name w r → continueTo w p b root r ≡ some s
-      → (around w root r s ≡ true) × (isLoop (class w s) ≡ true) × (labelOn w p b root r s ≡ true)
+  pub continue-labelled : (s : ℕ) → 0 < name w r → continueTo w p b r ≡ some s
+      → (around w r s ≡ true) × (isLoop (class w s) ≡ true) × (labelOn w p b r s ≡ true)
   unfolding continueTo
   continue-labelled s l e =
       let f = rw (ne-eqb (name w r) 0 (λ z. omega arith), continueTo) at e in
-      let x = and-true (around w root r s) (isLoop (class w s) && labelOn w p b root r s)
-      (highest-found (λ q. around w root r q && (isLoop (class w q) && labelOn w p b root r q)) r s f .1) in
-      let y = and-true (isLoop (class w s)) (labelOn w p b root r s) (x .1) in
+      let x = and-true (around w r s) (isLoop (class w s) && labelOn w p b r s)
+      (highest-found (λ q. around w r q && (isLoop (class w q) && labelOn w p b r q)) r s f .1) in
+      let y = and-true (isLoop (class w s)) (labelOn w p b r s) (x .1) in
       (x .0, y .0, y .1)
 
   -- of a goto a row labelled with its name, in a list around it
-  pub goto-labelled : (s : ℕ) → gotoTo w p b root r ≡ some s → (labels w p b root r s ≡ true) × (inListOf w root s r ≡ true)
+  pub goto-labelled : (s : ℕ) → gotoTo w p b r ≡ some s → (labels w p b r s ≡ true) × (inListOf w s r ≡ true)
   unfolding gotoTo
-  goto-labelled s e = let x = goto-label w p b root r s e in (x .1, x .2)
+  goto-labelled s e = let x = goto-label w p b r s e in (x .1, x .2)
 
   -- and so the row that its binding word names; where the word is 0 the runner is stuck
-  pub goto-binding : root ≤ r → class w r ≡ goto → OneWay w p b root r (elim (binding w p b root r) [ zero ↦ none | suc s ↦ some (at s) ])
+  pub goto-binding : class w r ≡ goto → OneWay w p b r (elim (binding w p b r) [ zero ↦ none | suc s ↦ some (at s) ])
   unfolding choices step gotoTo
-  goto-binding h e =
-      let n = other-label w p b root r (λ x. clash (cc)) in
-      let z = binding-goto w p b root r n h e in
-      case-found (gotoLabel w p b root r)
-      (λ s f. let i : binding w p b root r ≡ suc s = z ∙ ap word f in rw (e, i) (refl, λ c. rw f))
-      (λ f. let i : binding w p b root r ≡ 0 = z ∙ ap word f in rw (e, i) (refl, λ c. rw f))
+  goto-binding e =
+      let n = other-label w p b r (λ x. clash (cc)) in
+      let z = binding-goto w p b r n e in
+      case-found (gotoLabel w p b r)
+      (λ s f. let i : binding w p b r ≡ suc s = z ∙ ap word f in rw (e, i) (refl, λ c. rw f))
+      (λ f. let i : binding w p b r ≡ 0 = z ∙ ap word f in rw (e, i) (refl, λ c. rw f))
 
   -- of a fallthrough the Case that begins where its own Case c ends, inside the Block k of the switch
-  pub fallthrough-case : (c k : ℕ) → listOf w root r ≡ some c → isCase (class w c) ≡ true → innermost w root (oneOf (caseBlock ∷ [])) c ≡ some k
-      → end w c < end w k → nextCase w root r ≡ some (end w c)
+  pub fallthrough-case : (c k : ℕ) → listOf w r ≡ some c → isCase (class w c) ≡ true → innermost w (oneOf (caseBlock ∷ [])) c ≡ some k
+      → end w c < end w k → nextCase w r ≡ some (end w c)
   unfolding nextCase
   fallthrough-case c k e t f h = rw (e, t, f, lt-ltb (end w c) (end w k) h, nextCase)
 
   -- "Without such a place the runner is stuck."
-  pub break-stuck : class w r ≡ break → breakTo w p b root r ≡ none → OneWay w p b root r none
+  pub break-stuck : class w r ≡ break → breakTo w p b r ≡ none → OneWay w p b r none
   unfolding choices step
   break-stuck e f = rw e (refl, λ c. rw f)
 
-  pub continue-stuck : class w r ≡ continue → continueTo w p b root r ≡ none → OneWay w p b root r none
+  pub continue-stuck : class w r ≡ continue → continueTo w p b r ≡ none → OneWay w p b r none
   unfolding choices step
   continue-stuck e f = rw e (refl, λ c. rw f)
 
-  pub goto-stuck : class w r ≡ goto → gotoTo w p b root r ≡ none → OneWay w p b root r none
+  pub goto-stuck : class w r ≡ goto → gotoTo w p b r ≡ none → OneWay w p b r none
   unfolding choices step
   goto-stuck e f = rw e (refl, λ c. rw f)
 
-  pub fallthrough-stuck : class w r ≡ fallthrough → nextCase w root r ≡ none → OneWay w p b root r none
+  pub fallthrough-stuck : class w r ≡ fallthrough → nextCase w r ≡ none → OneWay w p b r none
   unfolding choices step
   fallthrough-stuck e f = rw e (refl, λ c. rw f)
 
 -- "Stopped is the one lawful stop.", and nothing follows the closing brace
-module _ (w p b : List ℕ) (root : ℕ) where
-  pub no-step-stopped : (choices w p b root stopped ≡ 0) × ((c : ℕ) → step w p b root stopped c ≡ none)
+module _ (w p b : List ℕ) where
+  pub no-step-stopped : (choices w p b stopped ≡ 0) × ((c : ℕ) → step w p b stopped c ≡ none)
   unfolding choices step
   no-step-stopped = (refl, λ c. refl)
 
-  pub no-step-brace : (choices w p b root brace ≡ 0) × ((c : ℕ) → step w p b root brace c ≡ none)
+  pub no-step-brace : (choices w p b brace ≡ 0) × ((c : ℕ) → step w p b brace c ≡ none)
   unfolding choices step
   no-step-brace = (refl, λ c. refl)
 
   -- "A route is a list of states from row 0 on, each a step from the one before by any choice open there."
-  pub route-starts : (s : State) (l : List State) → Route w p b root (s ∷ l) → (s ≡ at root) × Walk w p b root s l
+  pub route-starts : (s : State) (l : List State) → Route w p b (s ∷ l) → (s ≡ at 0) × Walk w p b s l
   route-starts s l r = r
 
-  pub walk-steps : {s t : State} {l : List State} → Walk w p b root s (t ∷ l)
-      → (c : ℕ) × (c < choices w p b root s) × (step w p b root s c ≡ some t) × Walk w p b root t l
+  pub walk-steps : {s t : State} {l : List State} → Walk w p b s (t ∷ l)
+      → (c : ℕ) × (c < choices w p b s) × (step w p b s c ≡ some t) × Walk w p b t l
   walk-steps (go c h e k) = (c, h, e, k)

@@ -16,7 +16,7 @@ use Rattle.rules.proofs.Computed.{computed}
 -- well-formed, with these codes on the sheet and this verdict
 abbrev Marks : List ℕ → List ℕ → Bool → Type 0
 Marks w codes v =
-    (refusal w pairs bytes ≡ none) × (map (λ (f : Fault). f .code) (sheet w pairs bytes 0) ≡ codes) × (verdict w pairs bytes 0 ≡ v)
+    (refusal w pairs bytes ≡ none) × (map (λ (f : Fault). f .code) (sheet w pairs bytes) ≡ codes) × (verdict w pairs bytes ≡ v)
 
 pub table : Marks body1 [] false
     × Marks body2 (4 ∷ 9 ∷ []) true
@@ -27,12 +27,12 @@ pub table : Marks body1 [] false
     × Marks body7 (7 ∷ []) true
     × Marks body8 (8 ∷ []) true
     × Marks body9 (1 ∷ 2 ∷ 9 ∷ []) true
-    × (getD (bindings body9 pairs bytes 0) 4 0 ≡ 6)
+    × (getD (bindings body9 pairs bytes) 4 0 ≡ 6)
     × Marks body10 [] false
     × Marks body11 [] true
     × Marks body11s [] false
     × Marks body12 [] true
-    × (placing body12 0 ≡ some 4)
+    × (placing body12 ≡ some 4)
 unfolding computed
 table = (
   (refl, refl, refl),

@@ -46,16 +46,16 @@ use Rattle.rules.proofs.Computed.{computed}
 abbrev Marks : List Entry → List ℕ → Bool → Type 0
 Marks l codes v =
     (refusal (rowWords l) pairs bytes ≡ none)
-    × (map (λ (f : Fault). f .code) (sheet (rowWords l) pairs bytes 0) ≡ codes)
-    × (verdict (rowWords l) pairs bytes 0 ≡ v)
+    × (map (λ (f : Fault). f .code) (sheet (rowWords l) pairs bytes) ≡ codes)
+    × (verdict (rowWords l) pairs bytes ≡ v)
 
 -- the binding word of a row
 abbrev Binds : List Entry → ℕ → ℕ → Type 0
-Binds l r word = getD (bindings (rowWords l) pairs bytes 0) r 0 ≡ word
+Binds l r word = getD (bindings (rowWords l) pairs bytes) r 0 ≡ word
 
 -- well-formed, with this placing
 abbrev Places : List Entry → Option ℕ → Type 0
-Places l o = (refusal (rowWords l) pairs bytes ≡ none) × (placing (rowWords l) 0 ≡ o)
+Places l o = (refusal (rowWords l) pairs bytes ≡ none) × (placing (rowWords l) ≡ o)
 
 -- ---- gotos
 
@@ -108,10 +108,10 @@ abbrev fromBlock : List ℕ
 fromBlock = rowWords (Block 6 ∷ Block 2 ∷ Goto L ∷ Define ∷ Labeled L 2 ∷ Return ∷ [])
 
 -- the latest declaration is the one reported; a goto out of a Block jumps over what stands between in the label's list
-pub latest : (sheet latestItem pairs bytes 0 ≡ record { code = 3; position = 3; name = L; other = 5 } ∷ [])
+pub latest : (sheet latestItem pairs bytes ≡ record { code = 3; position = 3; name = L; other = 5 } ∷ [])
     × (refusal fromBlock pairs bytes ≡ none)
-    × (sheet fromBlock pairs bytes 0 ≡ record { code = 3; position = 3; name = L; other = 4 } ∷ [])
-    × (bindings fromBlock pairs bytes 0 ≡ 0 ∷ 0 ∷ 5 ∷ 0 ∷ 5 ∷ 0 ∷ [])
+    × (sheet fromBlock pairs bytes ≡ record { code = 3; position = 3; name = L; other = 4 } ∷ [])
+    × (bindings fromBlock pairs bytes ≡ 0 ∷ 0 ∷ 5 ∷ 0 ∷ 5 ∷ 0 ∷ [])
 unfolding computed
 latest = (refl, refl, refl, refl)
 
@@ -405,12 +405,12 @@ gotoOther = rowWords (Block 4 ∷ Goto 1 ∷ Labeled 4 2 ∷ Return ∷ [])
 
 -- the 9s stand by bytes, a prefix first and bytes unsigned; equal bytes are one name, and each row is reported with its own number
 pub names : (refusal threeLabels fourPairs fourNames ≡ none)
-    × (sheet threeLabels fourPairs fourNames 0 ≡ fault threeLabels 9 3 ∷ fault threeLabels 9 2 ∷ fault threeLabels 9 1 ∷ [])
+    × (sheet threeLabels fourPairs fourNames ≡ fault threeLabels 9 3 ∷ fault threeLabels 9 2 ∷ fault threeLabels 9 1 ∷ [])
     × (refusal twoNumbers fourPairs fourNames ≡ none)
-    × (sheet twoNumbers fourPairs fourNames 0 ≡ fault twoNumbers 1 2 ∷ fault twoNumbers 2 1 ∷ fault twoNumbers 9 1 ∷ [])
+    × (sheet twoNumbers fourPairs fourNames ≡ fault twoNumbers 1 2 ∷ fault twoNumbers 2 1 ∷ fault twoNumbers 9 1 ∷ [])
     × (refusal gotoOther fourPairs fourNames ≡ none)
-    × (sheet gotoOther fourPairs fourNames 0 ≡ [])
-    × (bindings gotoOther fourPairs fourNames 0 ≡ 0 ∷ 3 ∷ 3 ∷ 0 ∷ [])
+    × (sheet gotoOther fourPairs fourNames ≡ [])
+    × (bindings gotoOther fourPairs fourNames ≡ 0 ∷ 3 ∷ 3 ∷ 0 ∷ [])
 unfolding computed
 names = (refl, refl, refl, refl, refl, refl, refl)
 
@@ -420,6 +420,6 @@ anyPositions =
     12 ∷ 0 ∷ 7 ∷ 0 ∷ 5 ∷ 11 ∷ 2 ∷ 7 ∷ L ∷ 1 ∷ 7 ∷ 1 ∷ 9 ∷ 0 ∷ 1 ∷ 3 ∷ 0 ∷ 2 ∷ L ∷ 2 ∷ 10 ∷ 0 ∷ 7 ∷ 0 ∷ 1 ∷ []
 
 pub positions : (refusal anyPositions pairs bytes ≡ none)
-    × (sheet anyPositions pairs bytes 0 ≡ record { code = 3; position = 7; name = L; other = 9 } ∷ [])
+    × (sheet anyPositions pairs bytes ≡ record { code = 3; position = 7; name = L; other = 9 } ∷ [])
 unfolding computed
 positions = (refl, refl)

@@ -19,10 +19,10 @@ pub data Answer (A : Type 0) : Type 0 where
 
 -- the first row badly placed, or none
 unfoldable pub placingCall : List ℕ → List ℕ → List ℕ → Answer (Option ℕ)
-placingCall w p b = elim (refusal w p b) [ some r ↦ refused (r .0) (r .1) | none ↦ answered (placing w 0) ]
+placingCall w p b = elim (refusal w p b) [ some r ↦ refused (r .0) (r .1) | none ↦ answered (placing w) ]
 
 unfoldable pub verdictCall : List ℕ → List ℕ → List ℕ → Answer Bool
-verdictCall w p b = elim (refusal w p b) [ some r ↦ refused (r .0) (r .1) | none ↦ answered (verdict w p b 0) ]
+verdictCall w p b = elim (refusal w p b) [ some r ↦ refused (r .0) (r .1) | none ↦ answered (verdict w p b) ]
 
 -- ---- the label call: the answer, the lent sheet and the lent bindings
 
@@ -50,9 +50,9 @@ labelCall w p b s t = elim (refusal w p b) [
   | none ↦ elim (tooShort w s t) [
     | true ↦ record { answer = refused 7 0; sheet-words = s; binding-words = t }
     | false ↦ record {
-      answer = answered (length (sheet w p b 0));
-      sheet-words = written (faultWords (sheet w p b 0)) s;
-      binding-words = written (bindings w p b 0) t;
+      answer = answered (length (sheet w p b));
+      sheet-words = written (faultWords (sheet w p b)) s;
+      binding-words = written (bindings w p b) t;
     }
   ]
 ]

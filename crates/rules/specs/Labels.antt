@@ -1,12 +1,12 @@
--- Document 01, "Label call": the sheet and the bindings of the body at `root`, in closed form.
+-- Document 01, "Label call": the sheet and the bindings of a body, in closed form.
 -- Assumes nothing.
 use mathlib.Core.Bool.{Bool, true, false, _&&_, _||_, not}
 use mathlib.Core.List.{List, [], _∷_, _++_}
 use mathlib.Core.Option.{Option, none, some}
 use Prim.Native.Nat.{ℕ, zero, suc}
-use lib.Dec.{ltb, leb, eqb}
+use lib.Dec.{ltb, eqb}
 use Rattle.rules.specs.Scan.{lowest, highest}
-use Rattle.rules.specs.Rows.{position, name, end}
+use Rattle.rules.specs.Rows.{rowCount, position, name, end}
 use Rattle.rules.specs.Class.{Class, declaration, labeled, break, continue, goto, fallthrough, oneOf, isBranch, isBreakable, isLoop, class}
 use Rattle.rules.specs.Names.{pairCount, sameName, isBlank, rank}
 use Rattle.rules.specs.Scope.{isBlock, around, innermost, listOf, inListOf}
@@ -51,12 +51,12 @@ word o = elim o [ none ↦ 0 | some r ↦ suc r ]
 abbrev pub fault : List ℕ → ℕ → ℕ → Fault
 fault w code r = record { code = code; position = position w r; name = name w r; other = 0 }
 
-module _ (w p b : List ℕ) (root : ℕ) where
+module _ (w p b : List ℕ) where
   -- ---- labels
 
-  -- r is a label of this body, not `_`
+  -- r is a label, not `_`
   unfoldable pub isLabel : ℕ → Bool
-  isLabel r = leb root r && (isClass w labeled r && not (isBlank p b (name w r)))
+  isLabel r = isClass w labeled r && not (isBlank p b (name w r))
 
   -- r is a label with the name that row g carries
   unfoldable pub labels : ℕ → ℕ → Bool
@@ -64,29 +64,29 @@ module _ (w p b : List ℕ) (root : ℕ) where
 
   -- the declared label of the name that row g carries: the first
   unfoldable pub declared : ℕ → Option ℕ
-  declared g = lowest (labels g) (end w root)
+  declared g = lowest (labels g) (rowCount w)
 
   -- ---- gotos
 
   -- the declared label, where it stands before the goto in a list around it
   unfoldable pub earlier : ℕ → Option ℕ
-  earlier g = elim (declared g) [ none ↦ none | some d ↦ elim (ltb d g && inListOf w root d g) [ true ↦ some d | false ↦ none ] ]
+  earlier g = elim (declared g) [ none ↦ none | some d ↦ elim (ltb d g && inListOf w d g) [ true ↦ some d | false ↦ none ] ]
 
   -- the first label of the name, of those before row x, that stands after the goto in a list around it
   unfoldable pub later : ℕ → ℕ → Option ℕ
-  later x g = lowest (λ r. ltb g r && (labels g r && inListOf w root r g)) x
+  later x g = lowest (λ r. ltb g r && (labels g r && inListOf w r g)) x
 
   -- the label that the goto binds to
   unfoldable pub gotoLabel : ℕ → Option ℕ
-  gotoLabel g = elim (earlier g) [ some d ↦ some d | none ↦ later (end w root) g ]
+  gotoLabel g = elim (earlier g) [ some d ↦ some d | none ↦ later (rowCount w) g ]
 
   -- the latest declaration item (VAR or `:=`, labels taken off) before row r in the list of r
   unfoldable pub latestDeclaration : ℕ → Option ℕ
-  latestDeclaration r = highest (λ d. leb root d && (isClass w declaration d && elim (listOf w root r) [ none ↦ false | some l ↦ is (listOf w root d) l ])) r
+  latestDeclaration r = highest (λ d. isClass w declaration d && elim (listOf w r) [ none ↦ false | some l ↦ is (listOf w d) l ]) r
 
   -- the goto is pending when the walk comes to row x
   unfoldable pub pending : ℕ → ℕ → Bool
-  pending x g = leb root g && (isClass w goto g && (not (isSome (earlier g)) && not (isSome (later x g))))
+  pending x g = isClass w goto g && (not (isSome (earlier g)) && not (isSome (later x g)))
 
   -- ---- labelled break and continue
 
@@ -99,11 +99,11 @@ module _ (w p b : List ℕ) (root : ℕ) where
 
   -- row r is inside a Block of the labelled statement t
   unfoldable pub inBlockOf : ℕ → ℕ → Bool
-  inBlockOf t r = elim (innermost w root isBlock r) [ none ↦ false | some k ↦ ltb t k ]
+  inBlockOf t r = elim (innermost w isBlock r) [ none ↦ false | some k ↦ ltb t k ]
 
   -- the target: among labelled statements of that name with the branch inside a Block of theirs, and last in their run, the innermost
   unfoldable pub target : ℕ → Option ℕ
-  target g = highest (λ t. around w root g t && (labels g t && (lastInRun t && inBlockOf t g))) g
+  target g = highest (λ t. around w g t && (labels g t && (lastInRun t && inBlockOf t g))) g
 
   unfoldable pub validTarget : ℕ → Bool
   validTarget g = elim (target g) [ none ↦ false | some t ↦ needs (class w g) (class w (suc t)) ]
@@ -112,14 +112,14 @@ module _ (w p b : List ℕ) (root : ℕ) where
 
   -- a break or continue with a label
   unfoldable pub labelledBreak : ℕ → Bool
-  labelledBreak r = leb root r && (oneOf (break ∷ continue ∷ []) (class w r) && ltb 0 (name w r))
+  labelledBreak r = oneOf (break ∷ continue ∷ []) (class w r) && ltb 0 (name w r)
 
   unfoldable pub binding : ℕ → ℕ
   binding r =
       elim (isLabel r) [
         | true ↦ elim (is (declared r) r) [ true ↦ suc r | false ↦ 0 ]
         | false ↦
-            elim (leb root r && isClass w goto r) [
+            elim (isClass w goto r) [
               | true ↦ word (gotoLabel r)
               | false ↦
                   elim (labelledBreak r && validTarget r) [ true ↦ word (declared r) | false ↦ 0 ]
@@ -132,7 +132,7 @@ module _ (w p b : List ℕ) (root : ℕ) where
   unfoldable pub jumpsOver : ℕ → ℕ → List Fault
   jumpsOver r g = elim (latestDeclaration r) [
     | none ↦ []
-    | some d ↦ only (pending r g && (labels g r && (inListOf w root r g && ltb g d))) (record { code = 3; position = position w g; name = name w g; other = position w d })
+    | some d ↦ only (pending r g && (labels g r && (inListOf w r g && ltb g d))) (record { code = 3; position = position w g; name = name w g; other = position w d })
   ]
 
   -- 1 and 2: the label r is not the declared one of its name
@@ -148,21 +148,21 @@ module _ (w p b : List ℕ) (root : ℕ) where
             elim (labelledBreak r) [
               | true ↦ only (not (validTarget r)) (fault w (elim (isClass w break r) [ true ↦ 4 | false ↦ 5 ]) r)
               | false ↦
-                  only (leb root r && (isClass w fallthrough r && ltb 0 (name w r))) (fault w 6 r)
+                  only (isClass w fallthrough r && ltb 0 (name w r)) (fault w 6 r)
             ]
       ]
 
   -- 7 and 8: a goto that is pending at the end
   unfoldable pub unresolved : ℕ → List Fault
-  unresolved g = only (pending (end w root) g) (fault w (elim (isSome (declared g)) [ true ↦ 7 | false ↦ 8 ]) g)
+  unresolved g = only (pending (rowCount w) g) (fault w (elim (isSome (declared g)) [ true ↦ 7 | false ↦ 8 ]) g)
 
   -- a declared label is used if some branch is bound to it or a 7 names it
   unfoldable pub used : ℕ → Bool
-  used d = isSome (lowest (λ g. isBranch (class w g) && (eqb (binding g) (suc d) || (pending (end w root) g && is (declared g) d))) (end w root))
+  used d = isSome (lowest (λ g. isBranch (class w g) && (eqb (binding g) (suc d) || (pending (rowCount w) g && is (declared g) d))) (rowCount w))
 
   -- the declared label of the name with the rank c
   unfoldable pub declaredAt : ℕ → Option ℕ
-  declaredAt c = lowest (λ r. isLabel r && eqb (rank p b (name w r)) c) (end w root)
+  declaredAt c = lowest (λ r. isLabel r && eqb (rank p b (name w r)) c) (rowCount w)
 
   -- 9: declared but not used
   unfoldable pub unused : ℕ → List Fault
@@ -170,7 +170,7 @@ module _ (w p b : List ℕ) (root : ℕ) where
 
   -- rows in order, then what is pending, then what is unused, by name bytes
   unfoldable pub sheet : List Fault
-  sheet = each report (end w root) ++ (each unresolved (end w root) ++ each (λ i. unused (suc i)) (pairCount p))
+  sheet = each report (rowCount w) ++ (each unresolved (rowCount w) ++ each (λ i. unused (suc i)) (pairCount p))
 
   unfoldable pub bindings : List ℕ
-  bindings = each (λ r. binding r ∷ []) (end w root)
+  bindings = each (λ r. binding r ∷ []) (rowCount w)

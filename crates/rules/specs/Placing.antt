@@ -4,26 +4,26 @@ use mathlib.Core.Bool.{Bool, true, false, _&&_, not}
 use mathlib.Core.List.{List}
 use mathlib.Core.Option.{Option, none, some}
 use Prim.Native.Nat.{ℕ, suc}
-use lib.Dec.{leb, eqb}
+use lib.Dec.{eqb}
 use Rattle.rules.specs.Scan.{lowest}
-use Rattle.rules.specs.Rows.{name, end}
+use Rattle.rules.specs.Rows.{rowCount, name, end}
 use Rattle.rules.specs.Class.{break, continue, fallthrough, isBreakable, isLoop}
 use Rattle.rules.specs.Scope.{innermost, listOf, onlyEmpty, nextCase}
 use Rattle.rules.specs.Labels.{isSome, isClass}
 
-module _ (w : List ℕ) (root : ℕ) where
+module _ (w : List ℕ) where
   -- a fallthrough, its labels included, as last non-Empty item of a Case that isn't the last of its switch
   unfoldable pub endsCase : ℕ → Bool
-  endsCase r = isSome (nextCase w root r) && elim (listOf w root r) [ none ↦ false | some c ↦ onlyEmpty w root (suc r) (end w c) ]
+  endsCase r = isSome (nextCase w r) && elim (listOf w r) [ none ↦ false | some c ↦ onlyEmpty w (suc r) (end w c) ]
 
   -- a break inside kinds 15, 16, 18, 19 or 20; a continue inside 19 or 20; a fallthrough as above; no other row has to be placed
   unfoldable pub wellPlaced : ℕ → Bool
   wellPlaced r =
       elim (isClass w break r) [
-        | true ↦ isSome (innermost w root isBreakable r)
+        | true ↦ isSome (innermost w isBreakable r)
         | false ↦
             elim (isClass w continue r) [
-              | true ↦ isSome (innermost w root isLoop r)
+              | true ↦ isSome (innermost w isLoop r)
               | false ↦
                   elim (isClass w fallthrough r) [ true ↦ endsCase r | false ↦ true ]
             ]
@@ -31,8 +31,8 @@ module _ (w : List ℕ) (root : ℕ) where
 
   -- an unlabelled branch that is not well placed
   unfoldable pub badlyPlaced : ℕ → Bool
-  badlyPlaced r = (leb root r && eqb (name w r) 0) && not (wellPlaced r)
+  badlyPlaced r = eqb (name w r) 0 && not (wellPlaced r)
 
   -- the first row badly placed, or none
   unfoldable pub placing : Option ℕ
-  placing = lowest badlyPlaced (end w root)
+  placing = lowest badlyPlaced (rowCount w)

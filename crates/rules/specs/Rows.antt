@@ -2,7 +2,7 @@
 -- Assumes nothing.
 use mathlib.Core.Option.{Option}
 use mathlib.Core.List.{List}
-use Prim.Native.Nat.{ℕ, suc, _+_, _*_, _/_, _≤_, _<_}
+use Prim.Native.Nat.{ℕ, suc, _+_, _*_, _/_, _<_}
 use lib.Dec.{ltb}
 use lib.ListN.{length, getD}
 use Rattle.rules.specs.Scan.{highest, howMany}
@@ -48,7 +48,3 @@ pub data Item (w : List ℕ) (e : ℕ) : ℕ → ℕ → Type 0 where
 -- c is a child of p: children follow their parent, stepped through by size
 abbrev pub Child : List ℕ → ℕ → ℕ → Type 0
 Child w p c = Item w (end w p) (suc p) c
-
--- r is a row of the body at root, which today is row 0
-abbrev pub InBody : List ℕ → ℕ → ℕ → Type 0
-InBody w root r = (root ≤ r) × (r < end w root)

@@ -74,14 +74,14 @@ module _ (w : List ℕ) where
   unfoldable pub clauseCount : ℕ → ℕ
   clauseCount r = itemCount (size w r) (end w r) (suc (suc r))
 
-module _ (w : List ℕ) (root : ℕ) where
+module _ (w : List ℕ) where
   -- ---- going on
 
   -- after s, where no row from k up to s is around s: the next item; past a list's end, after its Block, or after the switch or Select for a clause;
-  -- past a For or Range body, that row again; past If or Labeled, after it; past the root, the closing brace
+  -- past a For or Range body, that row again; past If or Labeled, after it; past row 0, the closing brace
   unfoldable pub climb : ℕ → ℕ → State
   climb zero s = brace
-  climb (suc k) s = elim (around w root s k) [
+  climb (suc k) s = elim (around w s k) [
     | false ↦ climb k s
     | true ↦ elim (onward (class w k)) [
       | again ↦ at k
@@ -93,23 +93,23 @@ module _ (w : List ℕ) (root : ℕ) where
   unfoldable pub after : ℕ → State
   after s = climb s s
 
-module _ (w p b : List ℕ) (root : ℕ) where
+module _ (w p b : List ℕ) where
   -- ---- where branches go
 
   -- break goes on after the statement it refers to
   unfoldable pub breakTo : ℕ → Option ℕ
-  breakTo g = highest (refersTo w p b root g) g
+  breakTo g = highest (refersTo w p b g) g
 
   -- continue goes to the For or Range its label is directly on or, unlabelled, to the innermost around it
   unfoldable pub continueTo : ℕ → Option ℕ
   continueTo g = elim (eqb (name w g) 0) [
-    | true ↦ innermost w root isLoop g
-    | false ↦ highest (λ s. around w root g s && (isLoop (class w s) && labelOn w p b root g s)) g
+    | true ↦ innermost w isLoop g
+    | false ↦ highest (λ s. around w g s && (isLoop (class w s) && labelOn w p b g s)) g
   ]
 
   -- goto goes to its labelled row, the label that it binds to; fallthrough into the next Case
   unfoldable pub gotoTo : ℕ → Option ℕ
-  gotoTo g = gotoLabel w p b root g
+  gotoTo g = gotoLabel w p b g
 
   -- ---- the choices open at row r, and one step by choice c
 
@@ -142,7 +142,7 @@ module _ (w p b : List ℕ) (root : ℕ) where
 
   -- the first item of a list, or past the list's end
   abbrev pub enter : ℕ → State
-  enter r = elim (ltb 1 (size w r)) [ true ↦ at (suc r) | false ↦ after w root r ]
+  enter r = elim (ltb 1 (size w r)) [ true ↦ at (suc r) | false ↦ after w r ]
 
   -- the clause of that number, or y past the last
   abbrev pub clause : ℕ → ℕ → State → State
@@ -150,29 +150,29 @@ module _ (w p b : List ℕ) (root : ℕ) where
 
   abbrev pub stepAs : Class → ℕ → ℕ → Option State
   stepAs k r c = elim k [
-    | plain ↦ some (after w root r)
-    | declaration ↦ some (after w root r)
-    | empty ↦ some (after w root r)
+    | plain ↦ some (after w r)
+    | declaration ↦ some (after w r)
+    | empty ↦ some (after w r)
     | labeled ↦ some (at (suc r))
     | stop ↦ some stopped
-    | break ↦ via (after w root) (breakTo r)
+    | break ↦ via (after w) (breakTo r)
     | continue ↦ via at (continueTo r)
     | goto ↦ via at (gotoTo r)
-    | fallthrough ↦ via at (nextCase w root r)
+    | fallthrough ↦ via at (nextCase w r)
     | block ↦ some (enter r)
     | caseBlock ↦ none
     | commBlock ↦ none
-    | if ↦ some (pick c (at (suc r)) (after w root r))
+    | if ↦ some (pick c (at (suc r)) (after w r))
     | ifElse ↦ some (pick c (at (suc r)) (at (end w (suc r))))
     | case ↦ some (enter r)
     | defaultCase ↦ some (enter r)
     | comm ↦ some (enter r)
     | defaultComm ↦ some (enter r)
-    | switch ↦ some (clause r c (after w root r))
-    | typeSwitch ↦ some (clause r c (after w root r))
+    | switch ↦ some (clause r c (after w r))
+    | typeSwitch ↦ some (clause r c (after w r))
     | select ↦ some (clause r c stopped)
     | for ↦ some (at (suc r))
-    | forCond ↦ some (pick c (at (suc r)) (after w root r))
+    | forCond ↦ some (pick c (at (suc r)) (after w r))
   ]
 
   unfoldable pub choices : State → ℕ
@@ -189,6 +189,6 @@ module _ (w p b : List ℕ) (root : ℕ) where
     done : {s : State} → Walk s []
     go : {s t : State} {l : List State} → (c : ℕ) → c < choices s → step s c ≡ some t → Walk t l → Walk s (t ∷ l)
 
-  -- a route is a list of states from the root on
+  -- a route is a list of states from row 0 on
   abbrev pub Route : List State → Type 0
-  Route l = elim l [ [] ↦ ⊥ | s ∷ r ↦ (s ≡ at root) × Walk s r ]
+  Route l = elim l [ [] ↦ ⊥ | s ∷ r ↦ (s ≡ at 0) × Walk s r ]

@@ -1,5 +1,4 @@
 -- Where a row stands: the rows around it, the list that it is in, what is left behind it there. All notions that look upward are scans over row numbers.
--- The body is the one at the row `root`, which today is row 0.
 -- Assumes nothing.
 use mathlib.Core.Bool.{Bool, true, false, _&&_, _||_, not}
 use mathlib.Core.List.{List, [], _∷_}
@@ -22,10 +21,10 @@ isBlock = oneOf (block ∷ caseBlock ∷ commBlock ∷ [])
 abbrev pub holdsItems : Class → Bool
 holdsItems c = isBlock c || isList c
 
-module _ (w : List ℕ) (root : ℕ) where
-  -- of the rows before r, k is one around r: of this body, and not ended at r
+module _ (w : List ℕ) where
+  -- of the rows before r, k is one around r: it has not ended at r
   abbrev pub around : ℕ → ℕ → Bool
-  around r k = leb root k && ltb r (end w k)
+  around r k = ltb r (end w k)
 
   -- the innermost row around r of a class that passes
   unfoldable pub innermost : (Class → Bool) → ℕ → Option ℕ

@@ -1,9 +1,9 @@
--- Document 01, "Verdict call": whether the body at `root` is terminating. The statement rule and the list rule call each other, downward.
+-- Document 01, "Verdict call": whether a body is terminating. The statement rule and the list rule call each other, downward.
 -- Assumes nothing.
 use mathlib.Core.Bool.{Bool, true, false, _&&_, _||_, not}
 use mathlib.Core.List.{List, [], _∷_}
 use Prim.Native.Nat.{ℕ, zero, suc, _+_}
-use lib.Dec.{ltb, leb, eqb}
+use lib.Dec.{ltb, eqb}
 use Rattle.rules.specs.Scan.{lowest}
 use Rattle.rules.specs.Rows.{name, size, end}
 use Rattle.rules.specs.Class.{plain, declaration, empty, labeled, stop, break, continue, goto, fallthrough, block, caseBlock, commBlock, if, ifElse, case, defaultCase, comm, defaultComm, switch, typeSwitch, select, for, forCond, oneOf, isBreakable, class}
@@ -20,17 +20,17 @@ module _ (w : List ℕ) where
   unfoldable pub hasDefault : ℕ → Bool
   hasDefault r = anyDefault (size w r) (end w r) (suc (suc r))
 
-module _ (w p b : List ℕ) (root : ℕ) where
+module _ (w p b : List ℕ) where
   -- ---- what a break refers to
 
   -- the label directly on s, `_` too, has the name that row g carries
   unfoldable pub labelOn : ℕ → ℕ → Bool
-  labelOn g s = elim s [ zero ↦ false | suc t ↦ leb root t && (isClass w labeled t && sameNames w p b t g) ]
+  labelOn g s = elim s [ zero ↦ false | suc t ↦ isClass w labeled t && sameNames w p b t g ]
 
   -- the break g, inside s, refers to s: unlabelled with s the innermost of kinds 15, 16, 18, 19, 20 around it, or naming the label directly on s
   unfoldable pub refersTo : ℕ → ℕ → Bool
-  refersTo g s = (isBreakable (class w s) && (ltb s g && around w root g s))
-      && elim (eqb (name w g) 0) [ true ↦ is (innermost w root isBreakable g) s | false ↦ labelOn g s ]
+  refersTo g s = (isBreakable (class w s) && (ltb s g && around w g s))
+      && elim (eqb (name w g) 0) [ true ↦ is (innermost w isBreakable g) s | false ↦ labelOn g s ]
 
   -- some break refers to s
   unfoldable pub hasBreak : ℕ → Bool
@@ -71,7 +71,7 @@ module _ (w p b : List ℕ) (root : ℕ) where
     pub terminatingList : ℕ → ℕ → ℕ → Bool
     terminatingList zero e c = false
     terminatingList (suc f) e c = elim (ltb c e) [
-      | true ↦ elim (onlyEmpty w root (end w c) e) [ true ↦ terminating f c | false ↦ terminatingList f e (end w c) ]
+      | true ↦ elim (onlyEmpty w (end w c) e) [ true ↦ terminating f c | false ↦ terminatingList f e (end w c) ]
       | false ↦ false
     ]
 
@@ -80,6 +80,6 @@ module _ (w p b : List ℕ) (root : ℕ) where
     terminatingClauses zero e c = false
     terminatingClauses (suc f) e c = elim (ltb c e) [ true ↦ terminating f c && terminatingClauses f e (end w c) | false ↦ true ]
 
-  -- `is_terminating` on the root row; a list takes a call for each item and for each level, so twice the rows are enough
+  -- `is_terminating` on row 0; a list takes a call for each item and for each level, so twice the rows are enough
   unfoldable pub verdict : Bool
-  verdict = terminating (suc (size w root + size w root)) root
+  verdict = terminating (suc (size w 0 + size w 0)) 0

@@ -13,7 +13,7 @@ use lib.ListN.{length, getD, set, length-set}
 use lib.Seq.{getD-set-same, getD-set-other}
 use borrow.Author.Tests.{eq-eqb, eqb-true}
 use Rattle.rules.specs.Scan.{lowest}
-use Rattle.rules.specs.Rows.{rowCount, kind, detail, name, end}
+use Rattle.rules.specs.Rows.{rowCount, kind, detail, name}
 use Rattle.rules.specs.Class.{labeled, oneOf, detailAllowed, classOf, base, class}
 use Rattle.rules.specs.Names.{pairCount}
 use Rattle.rules.specs.Body.{Body}
@@ -132,5 +132,5 @@ module _ {w p b : List ℕ} (body : Body w p b) where
   pub declaring-end : (t : List ℕ) (r : ℕ) → Declaring w p b t r → rowCount w ≤ r → DeclaredTable w p b t
   unfolding declaredFor
   declaring-end t r x h =
-      let e : r ≡ end w 0 = omega (arith, x .upto, body .root-size) in
+      let e : r ≡ rowCount w = omega (arith, x .upto, body .root-size) in
       record { room = x .room; at-canon = λ c z _. rw e at (x .words c z) }

@@ -8,7 +8,7 @@ use Prim.Native.Nat.{ℕ, zero, suc, _≤_, _<_}
 use lib.Dec.{eqb}
 use lib.ListN.{length, getD}
 use Rattle.rules.specs.Scan.{lowest}
-use Rattle.rules.specs.Rows.{rowCount, name, end}
+use Rattle.rules.specs.Rows.{rowCount, name}
 use Rattle.rules.specs.Names.{pairCount, isBlank}
 use Rattle.rules.specs.Body.{Body}
 use Rattle.rules.specs.Labels.{isLabel, word}
@@ -24,11 +24,11 @@ rowCanon w p b r = canon p b (name w r)
 
 -- r is a label whose name has the canonical number c
 abbrev pub isNumbered : List ℕ → List ℕ → List ℕ → ℕ → ℕ → Bool
-isNumbered w p b c r = isLabel w p b 0 r && eqb (rowCanon w p b r) c
+isNumbered w p b c r = isLabel w p b r && eqb (rowCanon w p b r) c
 
 -- the declared label of the names with the canonical number c: the first
 unfoldable pub declaredFor : List ℕ → List ℕ → List ℕ → ℕ → Option ℕ
-declaredFor w p b c = lowest (isNumbered w p b c) (end w 0)
+declaredFor w p b c = lowest (isNumbered w p b c) (rowCount w)
 
 -- each name's canonical number at its number
 pub record CanonTable (p b canons : List ℕ) : Type 0 where

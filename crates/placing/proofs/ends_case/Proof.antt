@@ -32,10 +32,10 @@ row c = start c .args .row .0
 abbrev list : tie.After-wide → ℕ
 list c = c .wide .result - 1
 
-listed : (c : tie.After-wide) → c .wide .result ≡ word (listOf (rows c) 0 (row c))
+listed : (c : tie.After-wide) → c .wide .result ≡ word (listOf (rows c) (row c))
 listed c = list-word (start c .pre .0) (row c) (start c .pre .1 .0) _ (start c .pre .1 .1) (c .wide .ensures)
 
-list-of : (c : tie.Else1) → listOf (rows (c .before)) 0 (row (c .before)) ≡ some (list (c .before))
+list-of : (c : tie.Else1) → listOf (rows (c .before)) (row (c .before)) ≡ some (list (c .before))
 list-of c = row-some _ _ (listed (c .before)) (c .if1 .left)
 
 list-row : (c : tie.Else1) → list (c .before) < rowCount (rows (c .before))
@@ -63,7 +63,7 @@ abbrev home : tie.After-wide2 → ℕ
 home c = c .wide2 .result - 1
 
 abbrev home-found : tie.After-wide2 → Option ℕ
-home-found c = innermost (rows (sized (c .before .before))) 0 (oneOf (caseBlock ∷ [])) (list (sized (c .before .before)))
+home-found c = innermost (rows (sized (c .before .before))) (oneOf (caseBlock ∷ [])) (list (sized (c .before .before)))
 
 homed : (c : tie.After-wide2) → c .wide2 .result ≡ word (home-found c)
 homed c =
@@ -76,7 +76,7 @@ home-of c = row-some _ _ (homed (c .before)) (c .if3 .left)
 home-row : (c : tie.Else3) → home (c .before) < rowCount (rows (sized (c .before .before .before)))
 home-row c =
     let k = c .before .before .before .before .before .before in
-    omega (arith, list-row k, innermost-found _ 0 (oneOf (caseBlock ∷ [])) (list (k .before)) (home (c .before)) (home-of c) .before)
+    omega (arith, list-row k, innermost-found _ (oneOf (caseBlock ∷ [])) (list (k .before)) (home (c .before)) (home-of c) .before)
 
 home-end : (c : tie.After-size2) →
     home (c .before .before) + c .size2 .result ≡ end (rows (sized (c .before .before .before .before))) (home (c .before .before))
@@ -158,7 +158,7 @@ returns-5 c =
     let b = c .before .before in
     let s = b .before .before .before .before in
     let k = s .before .before .before .before in
-    c .only-empty .ensures ∙ ap (onlyEmpty (rows k) 0 (row k + 1)) (case-end s)
+    c .only-empty .ensures ∙ ap (onlyEmpty (rows k) (row k + 1)) (case-end s)
     ∙ by-rest _ _ _ (list-of (s .before .before .before)) (is-case (s .before)) _ (home-of (b .before)) (omega (arith, home-end b, case-end s))
 
 pub ends-case-spec : {M : Type 1} → statement M

@@ -51,7 +51,7 @@ returns-2 c =
     let l = c .before .before .before .before .before in
     let s = l .before .before .before .before in
     let w = s .args .rows .now in
-    sym (found-lowest (badlyPlaced w 0) (end w 0) (l .loop .r) (omega (arith, whole s, c .before .before .before .before .loop-test .taken))
+    sym (found-lowest (badlyPlaced w) (rowCount w) (l .loop .r) (omega (arith, whole s, c .before .before .before .before .loop-test .taken))
     (sym (c .before .badly-placed .ensures) ∙ c .if2 .taken) (l .loop .inv .0))
 
 kind-requires : tie.Need-kind-requires Inv-loop μ-loop

@@ -48,7 +48,7 @@ loop-again c =
     (omega arith, all-more _ _ _ (l .loop .inv .1) (empty-row _ _ _ (a .kind .ensures) (allowed a) (c .if1 .left)))
 
 returns-2 : tie.Need-returns-2 Inv-loop μ-loop
-returns-2 c = sym (all-empty _ 0 _ _ (λ k h l. c .before .loop .inv .1 k h (omega arith)))
+returns-2 c = sym (all-empty _ _ _ (λ k h l. c .before .loop .inv .1 k h (omega arith)))
 
 pub only-empty-spec : {M : Type 1} → statement M
 only-empty-spec =

@@ -19,7 +19,7 @@ module _ (w p b : List ℕ) where
   unfolding placingCall
   call-refused x e = rw (e, placingCall)
 
-  call-answered : {o : Option ℕ} → refusal w p b ≡ none → o ≡ placing w 0 → answered o ≡ placingCall w p b
+  call-answered : {o : Option ℕ} → refusal w p b ≡ none → o ≡ placing w → answered o ≡ placingCall w p b
   unfolding placingCall
   call-answered e f = rw (e, placingCall) (ap answered f)
 

@@ -74,8 +74,8 @@ module _ {w : List ℕ} {b e : ℕ} where
     step one q (same, other) = elim (ℕ-discrete (kind w c) 2) [ yes k ↦ rw (same k) (passed one q k) | no k ↦ rw (other k) (full q k) ]
 
   ended : (last : Found) {c : ℕ} → Walk w b e last c → e ≤ c → Lasts w b e last
-  ended (At s) a l = let (i, f, g) = a .kept in record { item = i; no-empty = f; rest = all-empty w 0 (end w s) e (λ k m n. g k m (omega arith)) }
-  ended Nowhere a l = all-empty w 0 b e (λ k m n. a .kept k m (omega arith))
+  ended (At s) a l = let (i, f, g) = a .kept in record { item = i; no-empty = f; rest = all-empty w (end w s) e (λ k m n. g k m (omega arith)) }
+  ended Nowhere a l = all-empty w b e (λ k m n. a .kept k m (omega arith))
 
 abbrev Inv-loop2 : tie.InvT-loop2
 Inv-loop2 rows end last₀ c₀ size₀ last c size =

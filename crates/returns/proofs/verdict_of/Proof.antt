@@ -23,7 +23,7 @@ module _ (w p b : List ℕ) where
 
   answering : WellFormed w p b → {t u : Bool} → t ≡ isTerminating w p b 0 → t ≡ u → answered u ≡ verdictCall w p b
   unfolding verdictCall isTerminating
-  answering e f g = rw (e, verdictCall) (ap answered (sym g ∙ f ∙ sym (verdict-is w p b 0)))
+  answering e f g = rw (e, verdictCall) (ap answered (sym g ∙ f ∙ sym (verdict-is w p b)))
 
 refusal-of-requires : tie.Need-refusal-of-requires
 refusal-of-requires c κs = search needs
