@@ -12,7 +12,7 @@ use lib.ListN.{length, drop, length-take, length-drop}
 use borrow.Author.Tests.{ltb-false, eqb-false, lt-ltb, le-ltb, eq-eqb, ne-eqb}
 use Rattle.rules.specs.Names.{badNameWords}
 use Rattle.rules.specs.Refusals.{badRowWords}
-use Rattle.rules.proofs.Causes.{refused-1, refused-2}
+use Rattle.rules.proofs.Causes.{refused-at, bad-1, good-1, bad-2}
 use Rattle.rules.proofs.Test.{case-of, clash, or-false}
 use Rattle.branches.proofs.WalkBindings.{each-length}
 use Rattle.bodyfile.specs.File.{word, words, rows, names, bytes, rowWords, pairWords, nameBytes}
@@ -77,10 +77,11 @@ module _ (f : List ℕ) where
 
   -- ---- the refusals of the counts
   counts-1 : badRowWords (rowWords f) ≡ true → refusedText 1 0 ≡ bodyText (rowWords f) (pairWords f) (nameBytes f)
-  counts-1 e = text-refused (rowWords f) (pairWords f) (nameBytes f) (1, 0) (refused-1 (rowWords f) (pairWords f) (nameBytes f) e)
+  counts-1 e = text-refused (rowWords f) (pairWords f) (nameBytes f) (1, 0) (refused-at (rowWords f) (pairWords f) (nameBytes f) 0 0 tt (bad-1 (rowWords f) e))
 
   counts-2 : badRowWords (rowWords f) ≡ false → badNameWords (pairWords f) (nameBytes f) ≡ true → refusedText 2 0 ≡ bodyText (rowWords f) (pairWords f) (nameBytes f)
-  counts-2 a e = text-refused (rowWords f) (pairWords f) (nameBytes f) (2, 0) (refused-2 (rowWords f) (pairWords f) (nameBytes f) a e)
+  counts-2 a e = text-refused (rowWords f) (pairWords f) (nameBytes f) (2, 0)
+      (refused-at (rowWords f) (pairWords f) (nameBytes f) 1 0 (good-1 (rowWords f) a, tt) (bad-2 (pairWords f) (nameBytes f) e))
 
   -- ---- by the counts
   rows-bad : (eqb (rows f) 0 || ltb 2000 (rows f)) ≡ true → badRowWords (rowWords f) ≡ true

@@ -155,29 +155,17 @@ cause5 w = elim (lowest (badSize w) (rowCount w)) [ some r ↦ some r | none ↦
 unfoldable pub cause6 : List ℕ → Option ℕ
 cause6 w = lowest (λ r. ltb 100 (depth w r)) (rowCount w)
 
--- the number and the index of the refusal, or none
+-- the causes with their numbers, in the order in which they are tried
+abbrev pub causes : List ℕ → List ℕ → List ℕ → List (ℕ × Option ℕ)
+causes w p b = (1, cause1 w) ∷ (2, cause2 p b) ∷ (3, cause3 p b) ∷ (4, cause4 w p) ∷ (5, cause5 w) ∷ (6, cause6 w) ∷ []
+
+-- the number and the index of the first that applies, or none
+unfoldable pub firstCause : List (ℕ × Option ℕ) → Option (ℕ × ℕ)
+firstCause [] = none
+firstCause (c ∷ cs) = elim (c .1) [ some i ↦ some (c .0, i) | none ↦ firstCause cs ]
+
 unfoldable pub refusal : List ℕ → List ℕ → List ℕ → Option (ℕ × ℕ)
-refusal w p b = elim (cause1 w) [
-  | some i ↦ some (1, i)
-  | none ↦
-      elim (cause2 p b) [
-        | some i ↦ some (2, i)
-        | none ↦
-            elim (cause3 p b) [
-              | some i ↦ some (3, i)
-              | none ↦
-                  elim (cause4 w p) [
-                    | some i ↦ some (4, i)
-                    | none ↦
-                        elim (cause5 w) [
-                          | some i ↦ some (5, i)
-                          | none ↦
-                              elim (cause6 w) [ some i ↦ some (6, i) | none ↦ none ]
-                        ]
-                  ]
-            ]
-      ]
-]
+refusal w p b = firstCause (causes w p b)
 
 -- well-formed: none of the causes 1 to 6 applies
 abbrev pub WellFormed : List ℕ → List ℕ → List ℕ → Type 0

@@ -9,14 +9,14 @@ use mathlib.Core.Option.{none}
 use Prim.Native.Nat.{ℕ, _<_}
 use denote.Ref.{now}
 use lib.Dec.{ltb}
+use lib.ListN.{take}
 use borrow.Author.Needs.{needs}
 use borrow.Author.Tests.{le-ltb}
 use Rattle.rules.specs.Scan.{lowest}
 use Rattle.rules.specs.Rows.{rowCount, depth}
-use Rattle.rules.specs.Names.{pairCount, badNameWords, badPair}
-use Rattle.rules.specs.Refusals.{badRowWords, badRow, badSize, badShape, cause6, WellFormed}
+use Rattle.rules.specs.Refusals.{badRowWords, badRow, badSize, badShape, causes, WellFormed}
 use Rattle.rules.proofs.Scan.{none-lowest}
-use Rattle.rules.proofs.Causes.{refused-1, refused-2, refused-3, refused-4, refused-size, refused-shape, refused-6, accepted}
+use Rattle.rules.proofs.Causes.{NoneOf, refused-at, accepted, bad-1, good-1, bad-2, good-2, is-3, is-4, bad-size-5, is-5, is-6}
 use Rattle.rules.proofs.Facts.{row-words, details, sizes}
 use Rattle.names.specs.Place.{place}
 use Rattle.body.specs.Right.{Right}
@@ -55,42 +55,59 @@ bytes s = now (s .args .bytes)
 no-1 : (c : tie.Else1) → badRowWords (rows (start-1 c)) ≡ false
 no-1 c = sym (c .before .bad-row-words .ensures) ∙ c .if1 .left
 
-no-2 : (c : tie.Else2) → badNameWords (pairs (start-2 c)) (bytes (start-2 c)) ≡ false
-no-2 c = sym (c .before .bad-name-words .ensures) ∙ c .if2 .left
-
-no-3 : (c : tie.After-enum-told) → lowest (badPair (pairs (start-3 c)) (bytes (start-3 c))) (pairCount (pairs (start-3 c))) ≡ none
-no-3 c = sym (c .before .before .first-bad-pair .ensures) ∙ ap place (c .enum-told .given .1)
-
 no-4 : (c : tie.After-enum-told2) → lowest (badRow (rows (start-4 c)) (pairs (start-4 c))) (rowCount (rows (start-4 c))) ≡ none
 no-4 c = sym (c .before .before .first-bad-row .ensures) ∙ ap place (c .enum-told2 .given .1)
 
 no-5 : (c : tie.After-enum-told3) → lowest (badSize (rows (start-5 c))) (rowCount (rows (start-5 c))) ≡ none
 no-5 c = sym (c .before .before .first-bad-size .ensures) ∙ ap place (c .enum-told3 .given .1)
 
-no-6 : (c : tie.After-enum-told4) → lowest (badShape (rows (start-6 c))) (rowCount (rows (start-6 c))) ≡ none
-no-6 c = sym (c .before .before .first-bad-shape .ensures) ∙ ap place (c .enum-told4 .given .1)
+-- ---- so none of the first k causes does
+abbrev NoneBefore : ℕ → tie.Start → Type 0
+NoneBefore k s = NoneOf (take k (causes (rows s) (pairs s) (bytes s)))
+
+before-2 : (c : tie.Else1) → NoneBefore 1 (start-1 c)
+before-2 c = (good-1 _ (no-1 c), tt)
+
+before-3 : (c : tie.Else2) → NoneBefore 2 (start-2 c)
+before-3 c = (before-2 (c .before .before) .0, (good-2 _ _ (sym (c .before .bad-name-words .ensures) ∙ c .if2 .left), tt))
+
+before-4 : (c : tie.After-enum-told) → NoneBefore 3 (start-3 c)
+before-4 c =
+    let (e1, (e2, _)) = before-3 (c .before .before .before) in
+    (e1, (e2, (is-3 _ _ ∙ sym (c .before .before .first-bad-pair .ensures) ∙ ap place (c .enum-told .given .1), tt)))
+
+before-5 : (c : tie.After-enum-told2) → NoneBefore 4 (start-4 c)
+before-5 c =
+    let (e1, (e2, (e3, _))) = before-4 (c .before .before .before .before .before) in
+    (e1, (e2, (e3, (is-4 _ _ ∙ no-4 c, tt))))
+
+before-6 : (c : tie.After-enum-told4) → NoneBefore 5 (start-6 c)
+before-6 c =
+    let k = c .before .before .before in
+    let (e1, (e2, (e3, (e4, _)))) = before-5 (k .before .before .before) in
+    let e5 = is-5 _ (no-5 k) ∙ sym (c .before .before .first-bad-shape .ensures) ∙ ap place (c .enum-told4 .given .1) in
+    (e1, (e2, (e3, (e4, (e5, tt)))))
 
 -- ---- none of the causes 4 to 6 applies where it does not to any row
-right-accepted : (w p b : List ℕ) → badRowWords w ≡ false → badNameWords p b ≡ false → lowest (badPair p b) (pairCount p) ≡ none
-    → ((k : ℕ) → k < rowCount w → Right w p k) → WellFormed w p b
-unfolding cause6
-right-accepted w p b e1 e2 e3 f = accepted w p b e1 e2 e3
-    (none-lowest (badRow w p) (rowCount w) (λ k l. f k l .allowed))
-    (none-lowest (badSize w) (rowCount w) (λ k l. f k l .sized))
-    (none-lowest (badShape w) (rowCount w) (λ k l. f k l .shaped))
-    (none-lowest (λ r. ltb 100 (depth w r)) (rowCount w) (λ k l. le-ltb 100 (depth w k) (f k l .shallow)))
+right-accepted : (w p b : List ℕ) → NoneOf (take 3 (causes w p b)) → ((k : ℕ) → k < rowCount w → Right w p k) → WellFormed w p b
+right-accepted w p b (e1, (e2, (e3, _))) f =
+    let e4 = none-lowest (badRow w p) (rowCount w) (λ k l. f k l .allowed) in
+    let sizes = none-lowest (badSize w) (rowCount w) (λ k l. f k l .sized) in
+    let e5 = none-lowest (badShape w) (rowCount w) (λ k l. f k l .shaped) in
+    let e6 = none-lowest (λ r. ltb 100 (depth w r)) (rowCount w) (λ k l. le-ltb 100 (depth w k) (f k l .shallow)) in
+    accepted w p b (e1, (e2, (e3, (is-4 w p ∙ e4, (is-5 w sizes ∙ e5, (is-6 w ∙ e6, tt))))))
 
 bad-row-words-requires : tie.Need-bad-row-words-requires
 bad-row-words-requires c κs = search needs
 
 returns : tie.Need-returns
-returns c = sym (refused-1 _ _ _ (sym (c .before .bad-row-words .ensures) ∙ c .if1 .taken))
+returns c = sym (refused-at _ _ _ 0 0 tt (bad-1 _ (sym (c .before .bad-row-words .ensures) ∙ c .if1 .taken)))
 
 bad-name-words-requires : tie.Need-bad-name-words-requires
 bad-name-words-requires c κs = search needs
 
 returns-2 : tie.Need-returns-2
-returns-2 c = sym (refused-2 _ _ _ (no-1 (c .before .before)) (sym (c .before .bad-name-words .ensures) ∙ c .if2 .taken))
+returns-2 c = sym (refused-at _ _ _ 1 0 (before-2 (c .before .before)) (bad-2 _ _ (sym (c .before .bad-name-words .ensures) ∙ c .if2 .taken)))
 
 first-bad-pair-requires : tie.Need-first-bad-pair-requires
 first-bad-pair-requires c κs = search needs
@@ -101,7 +118,7 @@ enum-known-i c = search needs
 returns-3 : tie.Need-returns-3
 returns-3 c =
     let k2 = c .before .before .before .before in
-    sym (refused-3 _ _ _ (no-1 (k2 .before .before)) (no-2 k2) _ (sym (c .before .before .before .first-bad-pair .ensures) ∙ ap place (c .before .i .given .1)))
+    sym (refused-at _ _ _ 2 _ (before-3 k2) (is-3 _ _ ∙ sym (c .before .before .before .first-bad-pair .ensures) ∙ ap place (c .before .i .given .1)))
 
 enum-told : tie.Need-enum-told
 enum-told c = search needs
@@ -112,10 +129,7 @@ well-formed-rows-requires c κs =
     let f = row-words _ (no-1 (k2 .before .before)) in (f .some-rows, f .most-rows)
 
 returns-4 : tie.Need-returns-4
-returns-4 c =
-    let k3 = c .before .before in
-    let k2 = k3 .before .before .before in
-    sym (right-accepted _ _ _ (no-1 (k2 .before .before)) (no-2 k2) (no-3 k3) (c .before .well-formed-rows .ensures (c .if3 .taken)))
+returns-4 c = sym (right-accepted _ _ _ (before-4 (c .before .before)) (c .before .well-formed-rows .ensures (c .if3 .taken)))
 
 first-bad-row-requires : tie.Need-first-bad-row-requires
 first-bad-row-requires c κs = search needs
@@ -126,8 +140,7 @@ enum-known-r c = search needs
 returns-5 : tie.Need-returns-5
 returns-5 c =
     let k3 = c .before .before .before .before .before .before in
-    let k2 = k3 .before .before .before in
-    sym (refused-4 _ _ _ (no-1 (k2 .before .before)) (no-2 k2) (no-3 k3) _ (sym (c .before .before .before .first-bad-row .ensures) ∙ ap place (c .before .r .given .1)))
+    sym (refused-at _ _ _ 3 _ (before-4 k3) (is-4 _ _ ∙ sym (c .before .before .before .first-bad-row .ensures) ∙ ap place (c .before .r .given .1)))
 
 enum-told-2 : tie.Need-enum-told-2
 enum-told-2 c = search needs
@@ -141,9 +154,7 @@ enum-known-r-2 c = search needs
 returns-6 : tie.Need-returns-6
 returns-6 c =
     let k4 = c .before .before .before .before in
-    let k3 = k4 .before .before .before .before .before in
-    let k2 = k3 .before .before .before in
-    sym (refused-size _ _ _ (no-1 (k2 .before .before)) (no-2 k2) (no-3 k3) (no-4 k4) _ (sym (c .before .before .before .first-bad-size .ensures) ∙ ap place (c .before .r2 .given .1)))
+    sym (refused-at _ _ _ 4 _ (before-5 k4) (bad-size-5 _ _ (sym (c .before .before .before .first-bad-size .ensures) ∙ ap place (c .before .r2 .given .1))))
 
 enum-told-3 : tie.Need-enum-told-3
 enum-told-3 c = search needs
@@ -157,10 +168,8 @@ enum-known-r-3 c = search needs
 returns-7 : tie.Need-returns-7
 returns-7 c =
     let k5 = c .before .before .before .before in
-    let k4 = k5 .before .before .before in
-    let k3 = k4 .before .before .before .before .before in
-    let k2 = k3 .before .before .before in
-    sym (refused-shape _ _ _ (no-1 (k2 .before .before)) (no-2 k2) (no-3 k3) (no-4 k4) (no-5 k5) _ (sym (c .before .before .before .first-bad-shape .ensures) ∙ ap place (c .before .r3 .given .1)))
+    sym (refused-at _ _ _ 4 _ (before-5 (k5 .before .before .before))
+    (is-5 _ (no-5 k5) ∙ sym (c .before .before .before .first-bad-shape .ensures) ∙ ap place (c .before .r3 .given .1)))
 
 enum-told-4 : tie.Need-enum-told-4
 enum-told-4 c = search needs
@@ -177,24 +186,15 @@ enum-known-r-4 c = search needs
 returns-8 : tie.Need-returns-8
 returns-8 c =
     let k6 = c .before .before .before .before in
-    let k5 = k6 .before .before .before in
-    let k4 = k5 .before .before .before in
-    let k3 = k4 .before .before .before .before .before in
-    let k2 = k3 .before .before .before in
-    sym (refused-6 _ _ _ (no-1 (k2 .before .before)) (no-2 k2) (no-3 k3) (no-4 k4) (no-5 k5) (no-6 k6) _ (sym (c .before .before .before .first-too-deep .ensures) ∙ ap place (c .before .r4 .given .1)))
+    sym (refused-at _ _ _ 5 _ (before-6 k6) (sym (c .before .before .before .first-too-deep .ensures) ∙ ap place (c .before .r4 .given .1)))
 
 enum-told-5 : tie.Need-enum-told-5
 enum-told-5 c = search needs
 
 returns-9 : tie.Need-returns-9
 returns-9 c =
-    let k6 = c .before .before .before in
-    let k5 = k6 .before .before .before in
-    let k4 = k5 .before .before .before in
-    let k3 = k4 .before .before .before .before .before in
-    let k2 = k3 .before .before .before in
-    sym (accepted _ _ _ (no-1 (k2 .before .before)) (no-2 k2) (no-3 k3) (no-4 k4) (no-5 k5) (no-6 k6)
-    (sym (c .before .before .first-too-deep .ensures) ∙ ap place (c .enum-told5 .given .1)))
+    let (e1, (e2, (e3, (e4, (e5, _))))) = before-6 (c .before .before .before) in
+    sym (accepted _ _ _ (e1, (e2, (e3, (e4, (e5, (sym (c .before .before .first-too-deep .ensures) ∙ ap place (c .enum-told5 .given .1), tt)))))))
 
 pub refusal-of-spec : {M : Type 1} → statement M
 refusal-of-spec =
