@@ -4,6 +4,7 @@ pub mod plain;
 pub mod walk;
 
 use names::Found;
+use refusals::Refusal;
 use rows::RowNumber;
 ghost use mathlib.Core.Path.{_≡_};
 ghost use mathlib.Core.Bool.{true, false, not};
@@ -16,22 +17,6 @@ ghost use Rattle.rules.specs.Names.{pairCount};
 ghost use Rattle.rules.specs.Refusals.{badRowWords, nameAllowed, badRow, badSize, refusal};
 ghost use Rattle.names.specs.Place.{place};
 ghost use Rattle.body.specs.Given.{given};
-
-// Why a body is refused, in the order in which the causes are tried.
-pub enum Refusal {
-    // 1: row words empty, not a multiple of 5, or over 2,000 rows
-    RowWords,
-    // 2: odd pair words, over 500 pairs, or over 8,000 name bytes
-    NameWords,
-    // 3: the first pair, from 0, with length 0, starting before the previous end or ending past the bytes
-    Pair(usize),
-    // 4: the first row whose kind, detail, position or name isn't allowed
-    Row(RowNumber),
-    // 5: the lowest row that breaks the rule for its own kind, parent or size
-    Shape(RowNumber),
-    // 6: the first row over 100 deep
-    Depth(RowNumber),
-}
 
 // Whether a body is refused or well-formed.
 pub enum Checked {

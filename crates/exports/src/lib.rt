@@ -4,10 +4,10 @@
 use body::Checked;
 use label::LabelAnswer;
 use marking::Marking;
-use marking::index_of;
-use marking::number_of;
 use names::Found;
 use placing::Placing;
+use refusals::index_of;
+use refusals::number_of;
 use returns::Verdict;
 ghost use mathlib.Core.Path.{_≡_};
 ghost use Prim.Native.Nat.{_≤_};
@@ -65,10 +65,6 @@ pub extern "C" fn zesthull_labels(
         LabelAnswer::Refused(r) => {
             *value = index_of(r);
             number_of(r)
-        }
-        LabelAnswer::TooShort => {
-            *value = 0;
-            7
         }
         LabelAnswer::Faults(n) => {
             *value = n;
@@ -171,10 +167,6 @@ pub extern "C" fn zesthull_marks(
         Marking::Refused(r) => {
             *value = index_of(r);
             number_of(r)
-        }
-        Marking::TooShort => {
-            *value = 0;
-            7
         }
         Marking::Marked(m) => {
             let placed = m.placed;

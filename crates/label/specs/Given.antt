@@ -2,11 +2,10 @@
 -- Assumes nothing.
 use Prim.Native.Nat.{ℕ}
 use Rattle.rules.specs.Calls.{Answer, refused, answered}
-use Rattle.body.specs.Given.{returned}
+use Rattle.refusals.specs.Returned.{returned}
 use Rattle.label.specs.declared.LabelAnswer.{LabelAnswer}
-use Rattle.label.specs.declared.LabelAnswer.the-variants.{Refused, TooShort, Faults}
+use Rattle.label.specs.declared.LabelAnswer.the-variants.{Refused, Faults}
 
 abbrev pub given : LabelAnswer → Answer ℕ
 given (Refused r) = refused (returned r .0) (returned r .1)
-given TooShort = refused 7 0
 given (Faults n) = answered n

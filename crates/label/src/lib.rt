@@ -7,7 +7,7 @@ pub mod rest;
 pub mod walk;
 
 use body::Checked;
-use body::Refusal;
+use refusals::Refusal;
 use rows::RowNumber;
 ghost use mathlib.Core.Path.{_≡_};
 ghost use mathlib.Core.Bool.{true};
@@ -24,8 +24,6 @@ ghost use Rattle.label.specs.Answered.{NoName, Cleared, Blank, Lent, Ans
 // The answer: the sheet's row count, or why there is none.
 pub enum LabelAnswer {
     Refused(Refusal),
-    // 7: sheet shorter than 8 words a row, or bindings shorter than 1 word a row
-    TooShort,
     Faults(usize),
 }
 
@@ -235,10 +233,10 @@ pub fn labels_of(
 {
     let count = rows.len() / 5;
     if sheet.len() < count * 8 {
-        return LabelAnswer::TooShort;
+        return LabelAnswer::Refused(Refusal::TooShort);
     }
     if bindings.len() < count {
-        return LabelAnswer::TooShort;
+        return LabelAnswer::Refused(Refusal::TooShort);
     }
     LabelAnswer::Faults(faults(rows, pairs, bytes, sheet, bindings))
 }

@@ -34,8 +34,7 @@ fn summary(title: &[u8], rows: &[u32], pairs: &[u32], bytes: &[u8]) {
     let mut bindings = [0u32; 2000];
     let answer = label::labels(rows, pairs, bytes, &mut sheet, &mut bindings);
     match answer {
-        LabelAnswer::Refused(_) => show::text(b"refused\n"),
-        LabelAnswer::TooShort => show::text(b"too short\n"),
+        LabelAnswer::Refused(r) => show::refused(r),
         LabelAnswer::Faults(n) => {
             show::number(n as u64);
             show::sheet_row(&sheet, 0);

@@ -1,6 +1,7 @@
 // Printing.
 use label::LabelAnswer;
 use libc::STDOUT_FILENO;
+use refusals::Refusal;
 
 pub fn text(bytes: &[u8]) {
     io::write_all(STDOUT_FILENO, bytes);
@@ -54,11 +55,19 @@ fn sheet_rows(sheet: &[u32], count: usize) {
     }
 }
 
-// The answer, a word or the sheet's row count.
+// A refusal, its number and its index.
+pub fn refused(refusal: Refusal) {
+    text(b"refused ");
+    io::print_decimal(STDOUT_FILENO, refusals::number_of(refusal) as u64);
+    text(b" ");
+    io::print_decimal(STDOUT_FILENO, refusals::index_of(refusal) as u64);
+    text(b"\n");
+}
+
+// The answer, a refusal or the sheet's row count.
 pub fn answer(answer: LabelAnswer) {
     match answer {
-        LabelAnswer::Refused(_) => text(b"refused\n"),
-        LabelAnswer::TooShort => text(b"too short\n"),
+        LabelAnswer::Refused(r) => refused(r),
         LabelAnswer::Faults(n) => {
             io::print_decimal(STDOUT_FILENO, n as u64);
             text(b" faults\n");
@@ -79,8 +88,7 @@ pub fn labels(title: &[u8], rows: &[u32]) {
         &mut sheet,
         &mut bindings,
     ) {
-        LabelAnswer::Refused(_) => text(b"refused\n"),
-        LabelAnswer::TooShort => text(b"too short\n"),
+        LabelAnswer::Refused(r) => refused(r),
         LabelAnswer::Faults(n) => {
             sheet_rows(&sheet, n);
             words(b"bindings", &bindings, rows.len() / 5);

@@ -6,9 +6,9 @@ use mathlib.Core.Option.{Option}
 use Prim.Native.Nat.{ℕ}
 use Rattle.rules.specs.Calls.{Answer, refused, answered, labelCall, placingCall, verdictCall}
 use Rattle.names.specs.Place.{place}
-use Rattle.body.specs.Given.{returned}
+use Rattle.refusals.specs.Returned.{returned}
 use Rattle.marking.specs.declared.Marking.{Marking}
-use Rattle.marking.specs.declared.Marking.the-variants.{Refused, TooShort, Marked}
+use Rattle.marking.specs.declared.Marking.the-variants.{Refused, Marked}
 
 -- the three answers, or the first refusal of them
 abbrev pub together : Answer ℕ → Answer (Option ℕ) → Answer Bool → Answer (ℕ × Option ℕ × Bool)
@@ -22,5 +22,4 @@ marksCall w p b s t = together (labelCall w p b s t .answer) (placingCall w p b)
 
 abbrev pub given : Marking → Answer (ℕ × Option ℕ × Bool)
 given (Refused r) = refused (returned r .0) (returned r .1)
-given TooShort = refused 7 0
 given (Marked m) = answered (m .faults, place (m .placed), m .terminating)

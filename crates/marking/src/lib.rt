@@ -1,15 +1,14 @@
 // The marks of a body in one call: its sheet and bindings, its placing and its verdict, after one
-// look for refusals. Also the number and the index of a refusal.
+// look for refusals.
 use body::Checked;
-use body::Refusal;
 use label::LabelAnswer;
 use names::Found;
 use names::NameNumber;
+use refusals::Refusal;
 use rows::RowNumber;
 ghost use mathlib.Core.Path.{_≡_};
 ghost use Rattle.rules.specs.Refusals.{WellFormed};
 ghost use Rattle.rules.specs.Calls.{labelCall};
-ghost use Rattle.body.specs.Given.{returned};
 ghost use Rattle.marking.specs.Marks.{marksCall, given};
 
 // The marks beside the sheet and the bindings.
@@ -24,37 +23,7 @@ pub struct Marks {
 
 pub enum Marking {
     Refused(Refusal),
-    // 7: sheet shorter than 8 words a row, or bindings shorter than 1 word a row
-    TooShort,
     Marked(Marks),
-}
-
-// The refusal's number in document 01's table.
-pub fn number_of(refusal: Refusal) -> u32
-    ensures { λ r. ⌜ r ≡ returned refusal .0 ⌝ }
-{
-    match refusal {
-        Refusal::RowWords => 1,
-        Refusal::NameWords => 2,
-        Refusal::Pair(_) => 3,
-        Refusal::Row(_) => 4,
-        Refusal::Shape(_) => 5,
-        Refusal::Depth(_) => 6,
-    }
-}
-
-// The row or pair that it is returned with; 0 where there is none.
-pub fn index_of(refusal: Refusal) -> usize
-    ensures { λ r. ⌜ r ≡ returned refusal .1 ⌝ }
-{
-    match refusal {
-        Refusal::RowWords => 0,
-        Refusal::NameWords => 0,
-        Refusal::Pair(i) => i,
-        Refusal::Row(r) => r.0,
-        Refusal::Shape(r) => r.0,
-        Refusal::Depth(r) => r.0,
-    }
 }
 
 // The marks of a well-formed body; 7 where there is no room for its sheet or bindings.
@@ -72,7 +41,6 @@ fn marks_of(
 {
     match label::labels_of(rows, pairs, bytes, sheet, bindings) {
         LabelAnswer::Refused(r) => Marking::Refused(r),
-        LabelAnswer::TooShort => Marking::TooShort,
         LabelAnswer::Faults(faults) => {
             let placed = placing::placed(rows);
             let root = RowNumber(0);

@@ -3,7 +3,7 @@
 use mathlib.Core.Option.{Option, none, some}
 use Prim.Native.Nat.{ℕ}
 use Rattle.rules.specs.Calls.{Answer, refused, answered}
-use Rattle.body.specs.Given.{returned}
+use Rattle.refusals.specs.Returned.{returned}
 use Rattle.placing.specs.declared.Placing.{Placing}
 use Rattle.placing.specs.declared.Placing.the-variants.{Refused, Bad, Well}
 

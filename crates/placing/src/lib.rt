@@ -3,8 +3,8 @@ mod counts;
 
 use crate::counts::next_that_counts;
 use body::Checked;
-use body::Refusal;
 use names::Found;
+use refusals::Refusal;
 use rows::RowNumber;
 ghost use mathlib.Core.Path.{_≡_};
 ghost use mathlib.Core.Bool.{true, false};

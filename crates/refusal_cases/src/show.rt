@@ -1,7 +1,7 @@
 // Printing.
 use body::Checked;
-use body::Refusal;
 use libc::STDOUT_FILENO;
+use refusals::Refusal;
 
 pub fn title(text: &[u8]) {
     io::write_all(STDOUT_FILENO, text);
@@ -16,14 +16,10 @@ fn line(number: u64, index: usize) {
 }
 
 fn returned(refusal: Refusal) {
-    match refusal {
-        Refusal::RowWords => line(1, 0),
-        Refusal::NameWords => line(2, 0),
-        Refusal::Pair(i) => line(3, i),
-        Refusal::Row(r) => line(4, r.0),
-        Refusal::Shape(r) => line(5, r.0),
-        Refusal::Depth(r) => line(6, r.0),
-    }
+    line(
+        refusals::number_of(refusal) as u64,
+        refusals::index_of(refusal),
+    );
 }
 
 // The refusal of a body.

@@ -46,10 +46,8 @@ fn body_text(rows: &[u32], pairs: &[u32], bytes: &[u8], out: &mut [u8]) -> usize
     let count = rows.len() / 5;
     match marking::mark(rows, pairs, bytes, &mut sheet, &mut bindings) {
         Marking::Refused(r) => {
-            lines::refused_text(marking::number_of(r), marking::index_of(r), out)
+            lines::refused_text(refusals::number_of(r), refusals::index_of(r), out)
         }
-        // never: there is room for 2,000 rows
-        Marking::TooShort => lines::refused_text(7, 0, out),
         Marking::Marked(m) => marked_text(&sheet, &bindings[..count], m, out),
     }
 }

@@ -2,7 +2,7 @@
 -- Assumes nothing.
 use mathlib.Core.Bool.{Bool, true, false}
 use Rattle.rules.specs.Calls.{Answer, refused, answered}
-use Rattle.body.specs.Given.{returned}
+use Rattle.refusals.specs.Returned.{returned}
 use Rattle.returns.specs.declared.Verdict.{Verdict}
 use Rattle.returns.specs.declared.Verdict.the-variants.{Refused, Yes, No}
 

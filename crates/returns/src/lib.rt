@@ -1,9 +1,9 @@
 // Port of goscript's returns.rs: whether a body is terminating. The statement rule and the list rule
 // call each other, downward, and so do the two searches for a break.
 use body::Checked;
-use body::Refusal;
 use names::Found;
 use names::NameNumber;
+use refusals::Refusal;
 use rows::RowNumber;
 ghost use mathlib.Core.Path.{_≡_};
 ghost use mathlib.Core.Bool.{true, _||_};

@@ -1,7 +1,7 @@
 // Printing.
-use body::Refusal;
 use libc::STDOUT_FILENO;
 use placing::Placing;
+use refusals::Refusal;
 use returns::Verdict;
 
 pub fn text(bytes: &[u8]) {
@@ -12,23 +12,12 @@ fn number(n: usize) {
     io::print_decimal(STDOUT_FILENO, n as u64);
 }
 
-fn line(n: usize, index: usize) {
-    number(n);
-    text(b" ");
-    number(index);
-    text(b"\n");
-}
-
 // The number and index of a refusal.
 fn returned(refusal: Refusal) {
-    match refusal {
-        Refusal::RowWords => line(1, 0),
-        Refusal::NameWords => line(2, 0),
-        Refusal::Pair(i) => line(3, i),
-        Refusal::Row(r) => line(4, r.0),
-        Refusal::Shape(r) => line(5, r.0),
-        Refusal::Depth(r) => line(6, r.0),
-    }
+    io::print_decimal(STDOUT_FILENO, refusals::number_of(refusal) as u64);
+    text(b" ");
+    number(refusals::index_of(refusal));
+    text(b"\n");
 }
 
 fn placed(rows: &[u32], pairs: &[u32], bytes: &[u8]) {

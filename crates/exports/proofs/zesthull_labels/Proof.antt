@@ -20,9 +20,6 @@ index-of-requires c κs = search needs
 number-of-requires : tie.Need-number-of-requires
 number-of-requires c κs = search needs
 
-enum-told : tie.Need-enum-told
-enum-told c = search needs
-
 enum-known-n : tie.Need-enum-known-n
 enum-known-n c = search needs
 
@@ -47,18 +44,6 @@ same-length-4 c = search needs
 
 returns-2 : tie.Need-returns-2
 returns-2 c =
-    let e = c .before .before .before .before .before .before .labels .ensures in
-    let t = tells toldCount refl refl (sym (ap given (c .enum-told .given .1)) ∙ e .0) in
-    (t .0, (t .1, (e .1 .0, e .1 .1)))
-
-same-length-5 : tie.Need-same-length-5
-same-length-5 c = search needs
-
-same-length-6 : tie.Need-same-length-6
-same-length-6 c = search needs
-
-returns-3 : tie.Need-returns-3
-returns-3 c =
     let e = c .before .before .before .before .before .before .before .labels .ensures in
     let t = tells toldCount refl refl (sym (ap given (c .before .n .given .1)) ∙ e .0) in
     (t .0, (t .1, (e .1 .0, e .1 .1)))
@@ -71,14 +56,10 @@ zesthull-labels-spec =
     enum-known-r
     index-of-requires
     number-of-requires
-    enum-told
     enum-known-n
     same-length
     same-length-2
     returns
     same-length-3
     same-length-4
-    returns-2
-    same-length-5
-    same-length-6
-    returns-3)
+    returns-2)

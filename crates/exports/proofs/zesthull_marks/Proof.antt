@@ -19,9 +19,6 @@ index-of-requires c κs = search needs
 number-of-requires : tie.Need-number-of-requires
 number-of-requires c κs = search needs
 
-enum-told : tie.Need-enum-told
-enum-told c = search needs
-
 enum-known-m : tie.Need-enum-known-m
 enum-known-m c = search needs
 
@@ -53,18 +50,6 @@ same-length-4 c = search needs
 
 returns-2 : tie.Need-returns-2
 returns-2 c =
-    let e = c .before .before .before .before .before .before .mark .ensures in
-    let t = tells-marks _ _ refl refl refl refl (sym (ap given (c .enum-told .given .1)) ∙ e .0) in
-    (t .0, (t .1, (t .2, (t .3, (e .1 .0, e .1 .1)))))
-
-same-length-5 : tie.Need-same-length-5
-same-length-5 c = search needs
-
-same-length-6 : tie.Need-same-length-6
-same-length-6 c = search needs
-
-returns-3 : tie.Need-returns-3
-returns-3 c =
     let k = c .before .before in
     let e = k .before .before .before .before .before .before .before .mark .ensures in
     let t = tells-marks _ _ refl refl (c .before .placed-word .ensures) (c .verdict-word .ensures) (sym (ap given (k .before .m .given .1)) ∙ e .0) in
@@ -78,7 +63,6 @@ zesthull-marks-spec =
     enum-known-r
     index-of-requires
     number-of-requires
-    enum-told
     enum-known-m
     placed-word-requires
     verdict-word-requires
@@ -87,7 +71,4 @@ zesthull-marks-spec =
     returns
     same-length-3
     same-length-4
-    returns-2
-    same-length-5
-    same-length-6
-    returns-3)
+    returns-2)

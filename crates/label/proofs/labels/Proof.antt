@@ -4,8 +4,9 @@ use mathlib.Core.Path.{_≡_, sym, _∙_, ap}
 use mathlib.Core.Option.{Option, none, some}
 use Prim.Native.Nat.{ℕ}
 use borrow.Author.Needs.{needs}
-use Rattle.body.specs.Given.{returned, given as checked}
-use Rattle.body.specs.declared.Refusal.{Refusal}
+use Rattle.refusals.specs.Returned.{returned}
+use Rattle.body.specs.Given.{given as checked}
+use Rattle.refusals.specs.declared.Refusal.{Refusal}
 use Rattle.body.specs.declared.Checked.{Checked}
 use Rattle.body.specs.declared.Checked.the-variants.{Refused, WellFormed}
 use Rattle.label.proofs.CallRows.{call-refused}

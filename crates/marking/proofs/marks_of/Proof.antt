@@ -1,4 +1,4 @@
--- The label call answers or finds no room; then `placed` and `is_terminating` give what the other two calls answer.
+-- The label call answers or refuses; then `placed` and `is_terminating` give what the other two calls answer.
 -- Assumes nothing.
 use mathlib.Core.Path.{sym, _∙_, ap}
 use Rattle.rules.proofs.Facts.{body}
@@ -14,9 +14,6 @@ labels-of-requires c κs = search needs
 
 enum-known-r : tie.Need-enum-known-r
 enum-known-r c = search needs
-
-enum-told : tie.Need-enum-told
-enum-told c = search needs
 
 enum-known-faults : tie.Need-enum-known-faults
 enum-known-faults c = search needs
@@ -48,17 +45,6 @@ same-length-4 c = search needs
 
 returns-2 : tie.Need-returns-2
 returns-2 c =
-    let e = c .before .before .before .before .before .before .labels-of .ensures in
-    (marks-refused _ _ _ _ _ (sym (ap given (c .enum-told .given .1)) ∙ e .0), e .1)
-
-same-length-5 : tie.Need-same-length-5
-same-length-5 c = search needs
-
-same-length-6 : tie.Need-same-length-6
-same-length-6 c = search needs
-
-returns-3 : tie.Need-returns-3
-returns-3 c =
     let k = c .before .before in
     let e = k .before .before .before .before .before .before .before .labels-of .ensures in (
       marks-answered _ _ _ _ _ (k .before .before .before .before .before .before .before .before .before .before .before .before .before .before .before .pre)
@@ -72,7 +58,6 @@ marks-of-spec =
     (tie.spec
     labels-of-requires
     enum-known-r
-    enum-told
     enum-known-faults
     placed-requires
     is-terminating-requires
@@ -81,7 +66,4 @@ marks-of-spec =
     returns
     same-length-3
     same-length-4
-    returns-2
-    same-length-5
-    same-length-6
-    returns-3)
+    returns-2)

@@ -33,12 +33,6 @@ index-of-requires c κs = search needs
 refused-text-requires : tie.Need-refused-text-requires
 refused-text-requires c κs = search needs
 
-enum-told : tie.Need-enum-told
-enum-told c = search needs
-
-refused-text-requires-2 : tie.Need-refused-text-requires-2
-refused-text-requires-2 c κs = search needs
-
 enum-known-m : tie.Need-enum-known-m
 enum-known-m c = search needs
 
@@ -77,16 +71,6 @@ same-length-2 c = search needs
 
 returns-2 : tie.Need-returns-2
 returns-2 c =
-    let m = c .before .before .before .before .before .before .before .before .mark .ensures in
-    let e = sym (ap given (c .before .before .before .before .enum-told .given .1)) ∙ m .0 in
-    let t = c .before .before .refused-text2 .ensures in
-    (t .0 ∙ refused-text _ _ _ _ _ (enough _ 16000 2000 (omega arith) (omega arith) (omega arith)) _ _ e, t .1)
-
-same-length-3 : tie.Need-same-length-3
-same-length-3 c = search needs
-
-returns-3 : tie.Need-returns-3
-returns-3 c =
     let m = c .before .before .before .before .before .before .before .before .before .before .before .mark .ensures in
     let e = sym (ap given (c .before .before .before .before .before .before .before .m .given .1)) ∙ m .0 in
     let t = c .before .before .marked-text .ensures in (
@@ -105,8 +89,6 @@ body-text-spec =
     number-of-requires
     index-of-requires
     refused-text-requires
-    enum-told
-    refused-text-requires-2
     enum-known-m
     slice-aggregate-marked-text
     array-share-prefix-bindings
@@ -115,6 +97,4 @@ body-text-spec =
     same-length
     returns
     same-length-2
-    returns-2
-    same-length-3
-    returns-3)
+    returns-2)

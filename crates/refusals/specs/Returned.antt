@@ -1,0 +1,14 @@
+-- What a refusal returns: document 01's number and index.
+-- Assumes nothing.
+use Prim.Native.Nat.{ℕ}
+use Rattle.refusals.specs.declared.Refusal.{Refusal}
+use Rattle.refusals.specs.declared.Refusal.the-variants.{RowWords, NameWords, Pair, Row, Shape, Depth, TooShort}
+
+abbrev pub returned : Refusal → ℕ × ℕ
+returned RowWords = (1, 0)
+returned NameWords = (2, 0)
+returned (Pair i) = (3, i)
+returned (Row r) = (4, r .0)
+returned (Shape r) = (5, r .0)
+returned (Depth r) = (6, r .0)
+returned TooShort = (7, 0)
