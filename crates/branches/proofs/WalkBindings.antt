@@ -57,12 +57,6 @@ module _ (w p b : List ℕ) where
   unfolding bindingsAt
   bindings-at x g h = each-at (wordAt x) (rowCount w) g h
 
-  pub bindings-before : (x g : ℕ) → g < rowCount w → g < x → getD (bindingsAt w p b x) g 0 ≡ bindingAt w p b x g
-  bindings-before x g h l = bindings-at x g h ∙ word-before x g l
-
-  pub bindings-from : (x g : ℕ) → g < rowCount w → x ≤ g → getD (bindingsAt w p b x) g 0 ≡ 0
-  bindings-from x g h l = bindings-at x g h ∙ word-from x g l
-
   -- the first words of a list are these when they are one by one
   pub bindings-are : (x : ℕ) (t : List ℕ) → rowCount w ≤ length t → ((g : ℕ) → g < rowCount w → getD t g 0 ≡ wordAt x g)
       → take (rowCount w) t ≡ bindingsAt w p b x

@@ -72,9 +72,3 @@ module _ (w p b : List ℕ) where
     pub sheet-kept : drop (faults * 4) sheet′ ≡ drop (faults * 4) sheet
     pub bindings-length : length bindings′ ≡ length bindings
     pub bindings-kept : drop (rowCount w) bindings′ ≡ drop (rowCount w) bindings
-
-  -- the context that goes down the walk to row x, in the list l: the latest declaration there, and the current label
-  pub record InContext (l x latest label : ℕ) : Type 0 where
-    pub in-list : listOf w x ≡ some l
-    pub latest-is : latest ≡ word (latestIn l x)
-    pub label-is : label ≡ word (currentLabel x)

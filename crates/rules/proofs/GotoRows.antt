@@ -13,18 +13,7 @@ use Rattle.rules.specs.Class.{declaration, goto, class}
 use Rattle.rules.specs.Scope.{listOf, inListOf}
 use Rattle.rules.specs.Labels.{isSome, is, isClass, labels, declared, earlier, later, gotoLabel, latestDeclaration, pending}
 use Rattle.rules.proofs.Test.{case-of, case-found, clash, and-true}
-use Rattle.rules.proofs.Scan.{
-  lowest-none,
-  none-lowest,
-  lowest-found,
-  lowest-first,
-  found-lowest,
-  highest-found,
-  highest-last,
-  highest-none,
-  none-highest,
-  found-highest,
-}
+use Rattle.rules.proofs.Scan.{lowest-none, none-lowest, lowest-found, lowest-first, found-lowest, highest-found, highest-last, highest-none, found-highest}
 use Rattle.rules.proofs.ClassTests.{one-is}
 use Rattle.rules.proofs.Found.{is-found, found-is, is-none}
 use Rattle.rules.proofs.Every.{is-one}
@@ -175,10 +164,6 @@ module _ (w p b : List ℕ) where
   pub latest-none : (r k : ℕ) → latestDeclaration w p b r ≡ none → k < r → Declares r k → ⊥
   unfolding latestDeclaration
   latest-none r k e h x = clash (cc (highest-none (declaring r) r k e h, declaring-is r k x))
-
-  pub none-latest : (r : ℕ) → ((k : ℕ) → k < r → Declares r k → ⊥) → latestDeclaration w p b r ≡ none
-  unfolding latestDeclaration
-  none-latest r h = none-highest (declaring r) r (λ k l. case-of (declaring r k) (λ t. absurd (h k l (is-declaring r k t))) (λ f. f))
 
   -- ---- pending
   pub record Pending (x g : ℕ) : Type 0 where

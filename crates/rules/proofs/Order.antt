@@ -92,15 +92,9 @@ pub before-not-after : (xs ys : List ℕ) → bytesBefore xs ys ≡ true → byt
 before-not-after xs ys t = case-of (bytesBefore ys xs) (λ u. absurd (clash (cc (before-trans xs ys xs t u, before-not-self xs)))) (λ u. u)
 
 -- ---- not before
-pub not-before-total : (xs ys : List ℕ) → (bytesBefore xs ys ≡ false) ⊎ (bytesBefore ys xs ≡ false)
-not-before-total xs ys = case-of (bytesBefore xs ys) (λ t. inr (before-not-after xs ys t)) (λ f. inl f)
-
 -- before the first of two that stand in order is before the second, and after the second is after the first
 pub before-up : (xs ys zs : List ℕ) → bytesBefore xs ys ≡ true → bytesBefore zs ys ≡ false → bytesBefore xs zs ≡ true
 before-up xs ys zs t f = case-of (bytesBefore ys zs) (λ u. before-trans xs ys zs t u) (λ u. rw (← before-connected ys zs u f) t)
-
-pub before-down : (xs ys zs : List ℕ) → bytesBefore ys xs ≡ false → bytesBefore ys zs ≡ true → bytesBefore xs zs ≡ true
-before-down xs ys zs f t = case-of (bytesBefore xs ys) (λ u. before-trans xs ys zs u t) (λ u. rw (before-connected xs ys u f) t)
 
 pub not-before-trans : (xs ys zs : List ℕ) → bytesBefore xs ys ≡ false → bytesBefore ys zs ≡ false → bytesBefore xs zs ≡ false
 not-before-trans xs ys zs e f = case-of (bytesBefore xs zs) (λ t. absurd (clash (cc (before-up xs zs ys t f)))) (λ u. u)

@@ -37,7 +37,7 @@ use Rattle.rules.specs.Labels.{
   sheet,
 }
 use Rattle.rules.proofs.Test.{case-of, case-found, clash, and-true, or-true}
-use Rattle.rules.proofs.Scan.{lowest-none, none-lowest, lowest-found, lowest-first, found-lowest}
+use Rattle.rules.proofs.Scan.{lowest-none, none-lowest, lowest-found}
 use Rattle.rules.proofs.Each.{append-none, each-none, none-each}
 use Rattle.rules.proofs.ClassTests.{one-is}
 use Rattle.rules.proofs.Found.{is-some, is-found, found-is}
@@ -205,14 +205,6 @@ module _ (w p b : List ℕ) where
   pub is-declared-at : (c d : ℕ) → declaredAt w p b c ≡ some d → (d < rowCount w) × (isRanked c d ≡ true)
   unfolding declaredAt
   is-declared-at c d e = lowest-found (isRanked c) (rowCount w) d e
-
-  pub declared-at-first : (c d r : ℕ) → declaredAt w p b c ≡ some d → r < d → isRanked c r ≡ false
-  unfolding declaredAt
-  declared-at-first c d r e h = lowest-first (isRanked c) (rowCount w) d r e h
-
-  pub declared-at-is : (c d : ℕ) → d < rowCount w → isRanked c d ≡ true → ((r : ℕ) → r < d → isRanked c r ≡ false) → declaredAt w p b c ≡ some d
-  unfolding declaredAt
-  declared-at-is c d h t below = found-lowest (isRanked c) (rowCount w) d h t below
 
   pub declared-at-none : (c r : ℕ) → declaredAt w p b c ≡ none → r < rowCount w → isRanked c r ≡ false
   unfolding declaredAt

@@ -21,9 +21,6 @@ case-found none f g = g refl
 pub clash : _≡_ {A = ℕ} 0 1 → ⊥
 clash e = omega arith
 
-pub so : {t : Bool} → t ≡ true → T t
-so e = rw e tt
-
 pub os : (t : Bool) → T t → t ≡ true
 os true u = refl
 os false u = absurd u
