@@ -6,6 +6,8 @@ pub mod walk;
 use names::Found;
 use refusals::Refusal;
 use rows::RowNumber;
+use rows::details;
+use rows::kinds;
 ghost use mathlib.Core.Path.{_≡_};
 ghost use mathlib.Core.Bool.{true, false, not};
 ghost use mathlib.Core.List.{List};
@@ -46,11 +48,11 @@ fn name_allowed(kind: u32, detail: u32, pair_count: usize, name: usize) -> bool
     if pair_count < name {
         return false;
     }
-    if kind == 3 {
+    if kind == kinds::LABELED {
         return name != 0;
     }
-    if kind == 11 {
-        if detail == 2 {
+    if kind == kinds::BRANCH {
+        if detail == details::GOTO {
             return name != 0;
         }
         return true;
@@ -65,7 +67,7 @@ pub fn row_allowed(rows: &[u32], pair_count: usize, row: RowNumber) -> bool
 {
     let kind = rows::kind(rows, row);
     let detail = rows::detail(rows, row);
-    if !rows::details::detail_allowed(kind, detail) {
+    if !details::detail_allowed(kind, detail) {
         return false;
     }
     if rows::position(rows, row) == 0 {

@@ -1,6 +1,7 @@
 // Runs of plain items in a list: rows of a kind with nothing below it and no name. Most rows of most
 // bodies are such, and take fewer tests than the others.
 use rows::RowNumber;
+use rows::kinds;
 ghost use mathlib.Core.Path.{_≡_};
 ghost use mathlib.Core.Bool.{true};
 ghost use Prim.Native.Nat.{_≤_, _<_};
@@ -16,10 +17,10 @@ fn plain_item(rows: &[u32], row: RowNumber) -> bool
         return false;
     }
     let kind = rows::kind(rows, row);
-    if kind == 3 {
+    if kind == kinds::LABELED {
         return false;
     }
-    if 11 <= kind {
+    if kinds::BRANCH <= kind {
         return false;
     }
     if !rows::details::detail_allowed(kind, rows::detail(rows, row)) {

@@ -3,6 +3,7 @@
 use crate::plain::end_of_items;
 use crate::row_allowed;
 use rows::RowNumber;
+use rows::kinds;
 use shape::Holding;
 ghost use mathlib.Core.Path.{_≡_};
 ghost use mathlib.Core.Bool.{true, false};
@@ -90,8 +91,8 @@ fn item_kind(rows: &[u32], row: RowNumber) -> u32
     ensures { λ r. ⌜ r ≡ itemKind (holdingOf (class (now (rows .entry)) (row .0))) ⌝ }
 {
     match shape::holding_at(rows, row) {
-        Holding::Cases => 14,
-        Holding::Comms => 17,
+        Holding::Cases => kinds::CASE,
+        Holding::Comms => kinds::COMM,
         _ => 0,
     }
 }
@@ -103,10 +104,10 @@ fn may_be_item(items: u32, kind: u32) -> bool
     if items != 0 {
         return kind == items;
     }
-    if kind == 14 {
+    if kind == kinds::CASE {
         return false;
     }
-    kind != 17
+    kind != kinds::COMM
 }
 
 // Whether none of the causes 4, 5 and 6 applies to the statement, which is so deep, and to the rows

@@ -36,7 +36,7 @@ use Rattle.branches.proofs.WalkPending.{pending-other, pending-earlier,
 use Rattle.branches.proofs.WalkRoom.{faults-fit}
 use Rattle.branches.proofs.WalkRows.{
   Written,
-  links-other,
+  goto-or-label-other,
   written-same,
   written-bound,
   written-fault,
@@ -76,13 +76,13 @@ module _ {w p b cs ds ls : List ℕ} {upto : ℕ} (t : Tables w p b cs ds ls upt
     reported code r e s′ i =
         walked w p b x faults s bs h l row none-label walking (faults + 1) s′ bs
         (written-fault w p b x faults s bs h l row none-label walking (fault w code x) r e s′ i)
-        l (pending-other w p b (suc x) x n) (links-other w p b x l (no-block (class w x) br) (walking .block-links)) (λ g o. refl)
+        l (pending-other w p b (suc x) x n) (goto-or-label-other w p b x l (no-block (class w x) br) (walking .block-labels)) (λ g o. refl)
 
     bound : (v : ℕ) → report w p b x ≡ [] → v ≡ bindingAt w p b (suc x) x → Walked w p b (suc x) faults s bs s (set bs x v) h l
     bound v r e =
         walked w p b x faults s bs h l row none-label walking faults s (set bs x v)
         (written-bound w p b x faults s bs h l row none-label walking v r e)
-        l (pending-other w p b (suc x) x n) (links-other w p b x l (no-block (class w x) br) (walking .block-links)) (λ g o. refl)
+        l (pending-other w p b (suc x) x n) (goto-or-label-other w p b x l (no-block (class w x) br) (walking .block-labels)) (λ g o. refl)
 
   -- ---- a fallthrough with a label
   module _ (c : class w x ≡ fallthrough) (z : name w x ≡ 0 → ⊥) where
@@ -172,7 +172,7 @@ module _ {w p b cs ds ls : List ℕ} {upto : ℕ} (t : Tables w p b cs ds ls upt
         (λ d e.
         walked w p b x faults s bs h l row goto-label walking faults s (set bs x label)
         (written-bound w p b x faults s bs h l row goto-label walking label goto-report (el ∙ ap word e ∙ sym (at-goto w p b (suc x) x d c e)))
-        l (pending-earlier w p b (suc x) x d e) (links-other w p b x l goto-block (walking .block-links)) (λ g o. refl))
+        l (pending-earlier w p b (suc x) x d e) (goto-or-label-other w p b x l goto-block (walking .block-labels)) (λ g o. refl))
         (λ e. absurd (n (el ∙ ap word e)))
 
     -- pending

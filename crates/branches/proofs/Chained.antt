@@ -12,7 +12,7 @@ use Rattle.rules.specs.Rows.{position, name}
 use Rattle.rules.specs.Labels.{Fault}
 use Rattle.rules.specs.Calls.{faultWords}
 use Rattle.rules.proofs.Test.{case-of}
-use Rattle.branches.specs.Chain.{Chain, ended, linked, overs, threes, stored, Counting}
+use Rattle.branches.specs.Chain.{Chain, ended, linked, countOver, threes, stored, Counting}
 use Rattle.branches.proofs.WalkFaults.{words-append, words-length}
 
 -- ---- one row of a chain
@@ -53,31 +53,31 @@ sets-append (x ∷ xs) ys s i =
 
 -- ---- counting
 module _ (latest g : ℕ) (gs : List ℕ) where
-  pub overs-yes : suc g < latest → overs latest (g ∷ gs) ≡ suc (overs latest gs)
-  overs-yes h = rw (lt-ltb (suc g) latest h, overs)
+  pub countOver-yes : suc g < latest → countOver latest (g ∷ gs) ≡ suc (countOver latest gs)
+  countOver-yes h = rw (lt-ltb (suc g) latest h, countOver)
 
-  pub overs-no : latest ≤ suc g → overs latest (g ∷ gs) ≡ overs latest gs
-  overs-no h = rw (le-ltb (suc g) latest h, overs)
+  pub countOver-no : latest ≤ suc g → countOver latest (g ∷ gs) ≡ countOver latest gs
+  countOver-no h = rw (le-ltb (suc g) latest h, countOver)
 
-pub overs-most : {links : List ℕ} {list g last : ℕ} {gs : List ℕ} (latest : ℕ) → Chain links list g gs last → overs latest gs ≤ g
-overs-most latest (ended h) = omega arith
-overs-most latest (linked {g} {last} {gs} h d c) = case-of (ltb (suc g) latest)
-    (λ t. rw (t, overs) (omega (arith, overs-most latest c)))
-    (λ t. rw (t, overs) (omega (arith, overs-most latest c)))
+pub countOver-most : {links : List ℕ} {list g last : ℕ} {gs : List ℕ} (latest : ℕ) → Chain links list g gs last → countOver latest gs ≤ g
+countOver-most latest (ended h) = omega arith
+countOver-most latest (linked {g} {last} {gs} h d c) = case-of (ltb (suc g) latest)
+    (λ t. rw (t, countOver) (omega (arith, countOver-most latest c)))
+    (λ t. rw (t, countOver) (omega (arith, countOver-most latest c)))
 
 -- in the middle of the count: the chain's rest, and what was counted of it
 pub record Counted (links : List ℕ) (head list latest over g : ℕ) (all : List ℕ) (last : ℕ) : Type 0 where
   pub rest : List ℕ
   pub chain : Chain links list g rest last
   pub low : g ≤ head
-  pub count : over + overs latest rest ≡ overs latest all
+  pub count : over + countOver latest rest ≡ countOver latest all
 
 module _ {links : List ℕ} {head list latest : ℕ} {all : List ℕ} {last : ℕ} where
   pub count-begins : Chain links list head all last → Counted links head list latest 0 head all last
   count-begins c = record { rest = all; chain = c; low = omega arith; count = omega arith }
 
   pub count-few : {over g : ℕ} → Chain links list head all last → Counted links head list latest over g all last → over ≤ head
-  count-few c k = omega (arith, overs-most latest c, k .count)
+  count-few c k = omega (arith, countOver-most latest c, k .count)
 
   pub count-lower : {over g : ℕ} → Counted links head list latest over g all last → list < g → getD links (g - 1) 0 < g
   count-lower k l = omega (arith, step (k .chain) l .lower)
@@ -86,25 +86,25 @@ module _ {links : List ℕ} {head list latest : ℕ} {all : List ℕ} {last : �
       → Counted links head list latest (over + 1) next all last
   count-yes {over} {g} {next} k l h n =
       let s = step (k .chain) l in
-      let e : overs latest (k .rest) ≡ suc (overs latest (s .rest)) = ap (overs latest) (s .are) ∙ overs-yes latest (g - 1) (s .rest) (omega arith) in
+      let e : countOver latest (k .rest) ≡ suc (countOver latest (s .rest)) = ap (countOver latest) (s .are) ∙ countOver-yes latest (g - 1) (s .rest) (omega arith) in
       rw n (record { rest = s .rest; chain = s .chain; low = omega (arith, s .lower, k .low); count = omega (arith, k .count) })
 
   pub count-no : {over g next : ℕ} → Counted links head list latest over g all last → list < g → latest ≤ g → next ≡ getD links (g - 1) 0
       → Counted links head list latest over next all last
   count-no {over} {g} {next} k l h n =
       let s = step (k .chain) l in
-      let e : overs latest (k .rest) ≡ overs latest (s .rest) = ap (overs latest) (s .are) ∙ overs-no latest (g - 1) (s .rest) (omega arith) in
+      let e : countOver latest (k .rest) ≡ countOver latest (s .rest) = ap (countOver latest) (s .are) ∙ countOver-no latest (g - 1) (s .rest) (omega arith) in
       rw n (record { rest = s .rest; chain = s .chain; low = omega (arith, s .lower, k .low); count = omega (arith, k .count) })
 
-  pub count-ends : {over g : ℕ} → Counted links head list latest over g all last → g ≤ list → over ≡ overs latest all
-  count-ends k h = omega (arith, k .count, ap (overs latest) (stop (k .chain) h .0))
+  pub count-ends : {over g : ℕ} → Counted links head list latest over g all last → g ≤ list → over ≡ countOver latest all
+  count-ends k h = omega (arith, k .count, ap (countOver latest) (stop (k .chain) h .0))
 
 -- ---- the reports
-pub threes-length : (w : List ℕ) (latest : ℕ) (gs : List ℕ) → length (threes w latest gs) ≡ overs latest gs
+pub threes-length : (w : List ℕ) (latest : ℕ) (gs : List ℕ) → length (threes w latest gs) ≡ countOver latest gs
 threes-length w latest [] = refl
 threes-length w latest (g ∷ gs) = case-of (ltb (suc g) latest)
-    (λ t. rw (t, overs, threes, length-append) (omega (arith, threes-length w latest gs)))
-    (λ t. rw (t, overs, threes, append-nil) (threes-length w latest gs))
+    (λ t. rw (t, countOver, threes, length-append) (omega (arith, threes-length w latest gs)))
+    (λ t. rw (t, countOver, threes, append-nil) (threes-length w latest gs))
 
 pub threes-no : (w : List ℕ) (latest g : ℕ) (gs : List ℕ) → latest ≤ suc g → threes w latest (g ∷ gs) ≡ threes w latest gs
 threes-no w latest g gs h = rw (le-ltb (suc g) latest h, threes, append-nil)
@@ -119,7 +119,7 @@ threes-yes w latest g gs h = rw (lt-ltb (suc g) latest h, threes)
     (words-append (threes w latest gs) (record { code = 3; position = position w g; name = name w g; other = position w (latest - 1) } ∷ []))
 
 -- the last report first: it stands right before the place `at`, and the others before it
-pub threes-sets : (w s : List ℕ) (latest g : ℕ) (gs : List ℕ) (start at : ℕ) → suc g < latest → start + suc (overs latest gs) ≡ at
+pub threes-sets : (w s : List ℕ) (latest g : ℕ) (gs : List ℕ) (start at : ℕ) → suc g < latest → start + suc (countOver latest gs) ≡ at
     → sets s (start * 4) (faultWords (threes w latest (g ∷ gs))) ≡ sets (sets s ((at - 1) * 4) (wordsOfThree w latest g)) (start * 4) (faultWords (threes w latest gs))
 threes-sets w s latest g gs start at h e =
     let n : start * 4 + length (faultWords (threes w latest gs)) ≡ (at - 1) * 4 = omega (arith, words-length (threes w latest gs), threes-length w latest gs) in
@@ -133,11 +133,11 @@ pub record Resolves (w sheet₀ bindings₀ links sheet bindings : List ℕ) (he
   pub chain : Chain links list g rest last
   pub low : g ≤ head
   pub under : at ≤ end
-  pub count : at + overs latest all ≡ end + overs latest rest
+  pub count : at + countOver latest all ≡ end + countOver latest rest
   pub same-sheet : length sheet ≡ length sheet₀
   pub same-bindings : length bindings ≡ length bindings₀
   pub bound : stored bindings rest v ≡ stored bindings₀ all v
-  pub reported : (start : ℕ) → start + overs latest rest ≡ at
+  pub reported : (start : ℕ) → start + countOver latest rest ≡ at
       → sets sheet (start * 4) (faultWords (threes w latest rest)) ≡ sets sheet₀ (start * 4) (faultWords (threes w latest all))
 
 module _ {w sheet₀ bindings₀ links : List ℕ} {head list latest end v : ℕ} {all : List ℕ} {last : ℕ} where
@@ -156,10 +156,10 @@ module _ {w sheet₀ bindings₀ links : List ℕ} {head list latest end v : ℕ
 
   module _ {sheet bindings : List ℕ} {at g : ℕ} (k : Resolves w sheet₀ bindings₀ links sheet bindings head list latest end v at g all last) where
     -- a row to report is left to report
-    pub resolve-some : overs latest all ≤ end → list < g → g < latest → 0 < at
+    pub resolve-some : countOver latest all ≤ end → list < g → g < latest → 0 < at
     resolve-some few l h =
         let s = step (k .chain) l in
-        let e : overs latest (k .rest) ≡ suc (overs latest (s .rest)) = ap (overs latest) (s .are) ∙ overs-yes latest (g - 1) (s .rest) (omega arith) in
+        let e : countOver latest (k .rest) ≡ suc (countOver latest (s .rest)) = ap (countOver latest) (s .are) ∙ countOver-yes latest (g - 1) (s .rest) (omega arith) in
         omega (arith, k .count)
 
     pub resolve-lower : list < g → getD links (g - 1) 0 < g
@@ -172,7 +172,7 @@ module _ {w sheet₀ bindings₀ links : List ℕ} {head list latest end v : ℕ
         → Resolves w sheet₀ bindings₀ links (sets sheet ((at - 1) * 4) (wordsOfThree w latest (g - 1))) (set bindings (g - 1) v) head list latest end v (at - 1) next all last
     resolve-yes l h z n =
         let s = step (k .chain) l in
-        let e : overs latest (k .rest) ≡ suc (overs latest (s .rest)) = ap (overs latest) (s .are) ∙ overs-yes latest (g - 1) (s .rest) (omega arith) in
+        let e : countOver latest (k .rest) ≡ suc (countOver latest (s .rest)) = ap (countOver latest) (s .are) ∙ countOver-yes latest (g - 1) (s .rest) (omega arith) in
         rw n (record {
           rest = s .rest;
           chain = s .chain;
@@ -198,7 +198,7 @@ module _ {w sheet₀ bindings₀ links : List ℕ} {head list latest end v : ℕ
         → Resolves w sheet₀ bindings₀ links sheet (set bindings (g - 1) v) head list latest end v at next all last
     resolve-no l h n =
         let s = step (k .chain) l in
-        let e : overs latest (k .rest) ≡ overs latest (s .rest) = ap (overs latest) (s .are) ∙ overs-no latest (g - 1) (s .rest) (omega arith) in
+        let e : countOver latest (k .rest) ≡ countOver latest (s .rest) = ap (countOver latest) (s .are) ∙ countOver-no latest (g - 1) (s .rest) (omega arith) in
         rw n (record {
           rest = s .rest;
           chain = s .chain;
@@ -215,10 +215,10 @@ module _ {w sheet₀ bindings₀ links : List ℕ} {head list latest end v : ℕ
         })
 
     pub resolve-ends : g ≤ list → (g ≡ last) × (bindings ≡ stored bindings₀ all v)
-        × ((start : ℕ) → start + overs latest all ≡ end → sheet ≡ sets sheet₀ (start * 4) (faultWords (threes w latest all)))
+        × ((start : ℕ) → start + countOver latest all ≡ end → sheet ≡ sets sheet₀ (start * 4) (faultWords (threes w latest all)))
     resolve-ends h =
         let (e, f) = stop (k .chain) h in
-        let none : overs latest (k .rest) ≡ 0 = ap (overs latest) e in (
+        let none : countOver latest (k .rest) ≡ 0 = ap (countOver latest) e in (
           sym f,
           sym (ap (λ (gs : List ℕ). stored bindings gs v) e) ∙ k .bound,
           λ start i.

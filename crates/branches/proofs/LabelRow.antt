@@ -254,16 +254,16 @@ module _ {w p b cs ds ls : List ℕ} {x : ℕ} (tables : Tables w p b cs ds ls (
       (λ u. binding-same w p b x g u)
 
   -- ---- the chain of those of its number
-  module _ {faults : ℕ} {sheet bindings heads links : List ℕ} (walking : Walking w p b x faults sheet bindings heads links) where
-    linked-before : (g : ℕ) → g < x → waits w p b x (rowCanon w p b x) g ≡ true → getD links g 0 ≡ word (highest (waits w p b x (rowCanon w p b x)) g)
+  module _ {faults : ℕ} {sheet bindings heads goto-or-label : List ℕ} (walking : Walking w p b x faults sheet bindings heads goto-or-label) where
+    linked-before : (g : ℕ) → g < x → waits w p b x (rowCanon w p b x) g ≡ true → getD goto-or-label g 0 ≡ word (highest (waits w p b x (rowCanon w p b x)) g)
     unfolding previousPending
     linked-before g h t =
         let a = and-true (pending w p b x g) (eqb (rowCanon w p b g) (rowCanon w p b x)) t in
         let e = eqb-true (rowCanon w p b g) (rowCanon w p b x) (a .1) in
-        walking .goto-links g h (a .0) (omega (arith, numbered-row))
+        walking .goto-before g h (a .0) (omega (arith, numbered-row))
         ∙ ap (λ (c : ℕ). word (highest (waits w p b x c) g)) e
 
-    pub chain : Chain links lo (getD heads (rowCanon w p b x) 0) (down takes x) (word (highest (waits w p b x (rowCanon w p b x)) lo))
+    pub chain : Chain goto-or-label lo (getD heads (rowCanon w p b x) 0) (down takes x) (word (highest (waits w p b x (rowCanon w p b x)) lo))
     unfolding previousPending
     chain = rw (walking .heads-are (rowCanon w p b x) numbered-row canon-in)
-        (chain-down (waits w p b x (rowCanon w p b x)) lo links x list-within linked-before)
+        (chain-down (waits w p b x (rowCanon w p b x)) lo goto-or-label x list-within linked-before)

@@ -24,13 +24,13 @@ use Rattle.rules.proofs.BindingRows.{binding-declared, binding-repeated}
 use Rattle.rules.proofs.SheetRows.{repeated-not, repeated-is, report-label}
 use Rattle.tables.specs.Canon.{rowCanon, Tables}
 use Rattle.branches.specs.Walk.{faultsAt, previousPending, Walking, Walked}
-use Rattle.branches.specs.Chain.{Chain, overs, stored, Counting, Resolving, Resolved, Declaring}
+use Rattle.branches.specs.Chain.{Chain, countOver, stored, Counting, Resolving, Resolved, Declaring}
 use Rattle.branches.proofs.TableRows.{canon-read, declared-read}
 use Rattle.branches.proofs.WalkFaults.{faults-suc, words-append, words-length}
 use Rattle.branches.proofs.WalkBindings.{wordAt, word-before, word-from, bindings-are, are-bindings, at-other}
 use Rattle.branches.proofs.WalkPending.{waits}
 use Rattle.branches.proofs.WalkRoom.{faults-fit}
-use Rattle.branches.proofs.WalkRows.{links-other}
+use Rattle.branches.proofs.WalkRows.{goto-or-label-other}
 use Rattle.branches.proofs.Chained.{threes-length}
 use Rattle.branches.proofs.Downward.{down, highest-word, stored-length, stored-not, stored-at, stored-drop}
 use Rattle.branches.proofs.LabelRow.{
@@ -76,15 +76,15 @@ module _ (s : List ℕ) (k : ℕ) (fs : List Fault) (fits : (k + length fs) * 4 
       ∙ drop-at (take (k * 4) s ++ faultWords fs) (drop ((k + length fs) * 4) s) ((k + length fs) * 4) front
 
 -- what the row's work may assume
-abbrev pub AtLabel : (w p b cs ds ls s t heads links : List ℕ) (x faults latest : ℕ) → Type 0
-AtLabel w p b cs ds ls s t heads links x faults latest = Tables w p b cs ds ls (suc x)
-    × (Walking w p b x faults s t heads links × (((x < rowCount w) × (isLabel w p b x ≡ true)) × (latest ≡ word (latestDeclaration w p b x))))
+abbrev pub AtLabel : (w p b cs ds ls s t heads goto-or-label : List ℕ) (x faults latest : ℕ) → Type 0
+AtLabel w p b cs ds ls s t heads goto-or-label x faults latest = Tables w p b cs ds ls (suc x)
+    × (Walking w p b x faults s t heads goto-or-label × (((x < rowCount w) × (isLabel w p b x ≡ true)) × (latest ≡ word (latestDeclaration w p b x))))
 
-module _ {w p b cs ds ls s t heads links : List ℕ} {x faults latest : ℕ} (q : AtLabel w p b cs ds ls s t heads links x faults latest) where
+module _ {w p b cs ds ls s t heads goto-or-label : List ℕ} {x faults latest : ℕ} (q : AtLabel w p b cs ds ls s t heads goto-or-label x faults latest) where
   abbrev pub tables : Tables w p b cs ds ls (suc x)
   tables = q .0
 
-  abbrev pub walking : Walking w p b x faults s t heads links
+  abbrev pub walking : Walking w p b x faults s t heads goto-or-label
   walking = q .1 .0
 
   abbrev pub row : x < rowCount w
@@ -192,7 +192,7 @@ module _ {w p b cs ds ls s t heads links : List ℕ} {x faults latest : ℕ} (q 
   pub left-within : left ≤ x
   left-within = omega (arith, highest-word (waits w p b x (rowCanon w p b x)) (lo tables row label), list-within tables row label)
 
-  jump-count : overs latest taken ≡ length js
+  jump-count : countOver latest taken ≡ length js
   jump-count = sym (threes-length w latest taken) ∙ ap length (jumps tables row label latest latest-is)
 
   pub head-place : {c : ℕ} → c ≡ getD cs (name w x) 0 → c < length heads
@@ -205,7 +205,7 @@ module _ {w p b cs ds ls s t heads links : List ℕ} {x faults latest : ℕ} (q 
     head-row : head ≡ getD heads (rowCanon w p b x) 0
     head-row = head-is ∙ ap (λ (n : ℕ). getD heads n 0) the-canon
 
-    pub the-chain : Chain links list head taken left
+    pub the-chain : Chain goto-or-label list head taken left
     the-chain = rw (head-row, list-is) (chain tables row label walking)
 
     pub head-within : head ≤ x
@@ -214,17 +214,17 @@ module _ {w p b cs ds ls s t heads links : List ℕ} {x faults latest : ℕ} (q 
         let e = walking .heads-are (rowCanon w p b x) (numbered-row tables row label) (canon-in tables row label) in
         omega (arith, head-row ∙ e, highest-word (waits w p b x (rowCanon w p b x)) x)
 
-    abbrev pub counting-asks : Counting links head list
-    counting-asks = record { rows = taken; last = left; chain = the-chain; room = omega (arith, head-within, walking .block-links .0) }
+    abbrev pub counting-asks : Counting goto-or-label head list
+    counting-asks = record { rows = taken; last = left; chain = the-chain; room = omega (arith, head-within, walking .block-labels .0) }
 
     -- the rest of the work, after the label's own
-    module _ {s′ t′ : List ℕ} {more over : ℕ} (done : Own s′ t′ more) (over-is : over ≡ overs latest taken) where
+    module _ {s′ t′ : List ℕ} {more over : ℕ} (done : Own s′ t′ more) (over-is : over ≡ countOver latest taken) where
       pub end-fits : (more + over) * 4 ≤ length s′
       end-fits =
           let e : length s′ ≡ length s = ap length (done .sheet-is) ∙ length-sets s (faults * 4) (faultWords fs) in
           omega (arith, fits, done .more-is, over-is, jump-count)
 
-      pub resolve-asks : Resolving w s′ t′ links head x list latest (more + over)
+      pub resolve-asks : Resolving w s′ t′ goto-or-label head x list latest (more + over)
       resolve-asks = record {
         counting = counting-asks;
         few = tables .body .most-rows;
@@ -309,7 +309,7 @@ module _ {w p b cs ds ls s t heads links : List ℕ} {x faults latest : ℕ} (q 
               getD-set-other heads c d rest 0 (λ e. n (e ∙ the-canon)) ∙ walking .heads-are d z k ∙ ap word (sym (head-other tables row label d n))
         ]
 
-        pub label-walked : Walked w p b (suc x) end-of s t s″ t″ (set heads c rest) links
+        pub label-walked : Walked w p b (suc x) end-of s t s″ t″ (set heads c rest) goto-or-label
         label-walked = record {
           state = record {
             rows = row;
@@ -321,10 +321,10 @@ module _ {w p b cs ds ls s t heads links : List ℕ} {x faults latest : ℕ} (q 
                 (bindings-are w p b (suc x) (stored t′ taken (suc x)) (omega (arith, walking .bindings-room, stored-length t′ taken (suc x), done .same-length)) bound-at);
             heads-room = rw length-set (walking .heads-room);
             heads-are = heads-at;
-            block-links = links-other w p b x links (no-block tables row label) (walking .block-links);
-            goto-links = λ g h q z.
+            block-labels = goto-or-label-other w p b x goto-or-label (no-block tables row label) (walking .block-labels);
+            goto-before = λ g h q z.
                 let (l, q′) = still-waits tables row label g h q in
-                walking .goto-links g l q′ z ∙ ap word (sym (link-same tables row label g l q));
+                walking .goto-before g l q′ z ∙ ap word (sym (link-same tables row label g l q));
           };
           sheet-length = ap length sheet-last ∙ length-sets s′ ((faults + length fs) * 4) (faultWords js) ∙ sheet-same;
           sheet-kept = kept-all;

@@ -24,7 +24,7 @@ use Rattle.rules.proofs.ByKind.{by-kind}
 use Rattle.rules.proofs.ClassRules.{class-rule}
 use Rattle.rules.proofs.Around.{innermost-found, innermost-last, innermost-none}
 use Rattle.tables.specs.Canon.{rowCanon, Tables}
-use Rattle.branches.specs.Walk.{currentLabel, BlockLinks}
+use Rattle.branches.specs.Walk.{currentLabel, BlockLabels}
 use Rattle.tables.proofs.Labelling.{label-class, labels-canon, canon-labels}
 use Rattle.branches.proofs.TableRows.{canon-read, list-before}
 use Rattle.branches.proofs.BlockLabels.{BlockAround, is-current, target-none, target-found}
@@ -150,9 +150,9 @@ module _ {w p b cs ds ls : List ℕ} {g : ℕ} (t : Tables w p b cs ds ls (suc g
     pub climb-less : (next : ℕ) → next ≡ getD ls (list - 1) 0 → next < list
     climb-less next e = omega (arith, list-before t (list - 1) (omega (arith, climb-row)))
 
-    -- a Block: label is its word in the links
-    module _ (k : ℕ) (ek : k ≡ kind w (list - 1)) (i : k ≡ 12) (links : List ℕ) (linked : BlockLinks w p b g links) (label : ℕ)
-        (el : label ≡ getD links (list - 1) 0) where
+    -- a Block: label is its word in the table
+    module _ (k : ℕ) (ek : k ≡ kind w (list - 1)) (i : k ≡ 12) (goto-or-label : List ℕ) (linked : BlockLabels w p b g goto-or-label) (label : ℕ)
+        (el : label ≡ getD goto-or-label (list - 1) 0) where
       label-is : label ≡ word (currentLabel w p b (list - 1))
       label-is = el ∙ linked .1 (list - 1) climb-row (is-block k ek i)
 

@@ -20,18 +20,18 @@ use Rattle.rules.proofs.BreakRows.{LabelledBreak, not-labelled}
 use Rattle.rules.proofs.BindingRows.{binding-other}
 use Rattle.rules.proofs.SheetRows.{LabelledFallthrough, report-other}
 use Rattle.tables.specs.Canon.{rowCanon}
-use Rattle.branches.specs.Walk.{faultsAt, bindingAt, bindingsAt, previousPending, currentLabel, BlockLinks, Walking, Walked}
+use Rattle.branches.specs.Walk.{faultsAt, bindingAt, bindingsAt, previousPending, currentLabel, BlockLabels, Walking, Walked}
 use Rattle.branches.proofs.WalkFaults.{faults-none, faults-one, snoc-length, put-length, put-reported, put-kept}
 use Rattle.branches.proofs.WalkBindings.{at-other, not-later, bindings-set, bindings-kept, bindings-same}
 use Rattle.branches.proofs.WalkPending.{pending-same, pending-other, previous-same, previous-top, previous-other, previous-not}
 use Rattle.branches.proofs.WalkRoom.{faults-fit}
 
 module _ (w p b : List ℕ) where
-  -- ---- the links of Blocks
+  -- ---- the labels of Blocks
 
   -- a row that is none
-  pub links-other : (x : ℕ) (links : List ℕ) → isBlock (class w x) ≡ false → BlockLinks w p b x links → BlockLinks w p b (suc x) links
-  links-other x links f l = (
+  pub goto-or-label-other : (x : ℕ) (goto-or-label : List ℕ) → isBlock (class w x) ≡ false → BlockLabels w p b x goto-or-label → BlockLabels w p b (suc x) goto-or-label
+  goto-or-label-other x goto-or-label f l = (
     l .0,
     λ k h t. elim (ℕ-discrete k x) [
       | yes i ↦ let u : isBlock (class w x) ≡ true = rw i at t in absurd (clash (cc))
@@ -40,21 +40,21 @@ module _ (w p b : List ℕ) where
   )
 
   -- a row that is one
-  pub links-block : (x v : ℕ) (links : List ℕ) → x < rowCount w → v ≡ word (currentLabel w p b x) → BlockLinks w p b x links
-      → BlockLinks w p b (suc x) (set links x v)
-  links-block x v links row e l = (
+  pub goto-or-label-block : (x v : ℕ) (goto-or-label : List ℕ) → x < rowCount w → v ≡ word (currentLabel w p b x) → BlockLabels w p b x goto-or-label
+      → BlockLabels w p b (suc x) (set goto-or-label x v)
+  goto-or-label-block x v goto-or-label row e l = (
     rw length-set (l .0),
     λ k h t. elim (ℕ-discrete k x) [
-      | yes i ↦ rw i (getD-set-same links x v 0 (omega (arith, l .0)) ∙ e)
-      | no n ↦ getD-set-other links x k v 0 n ∙ l .1 k (omega arith) t
+      | yes i ↦ rw i (getD-set-same goto-or-label x v 0 (omega (arith, l .0)) ∙ e)
+      | no n ↦ getD-set-other goto-or-label x k v 0 n ∙ l .1 k (omega arith) t
     ],
   )
 
   -- other words may change at rows that are none
-  pub links-kept : (x : ℕ) (links links′ : List ℕ) → rowCount w ≤ length links′
-      → ((k : ℕ) → k < x → isBlock (class w k) ≡ true → getD links′ k 0 ≡ getD links k 0)
-      → BlockLinks w p b x links → BlockLinks w p b x links′
-  links-kept x links links′ room same l = (room, λ k h t. same k h t ∙ l .1 k h t)
+  pub goto-or-label-kept : (x : ℕ) (goto-or-label goto-or-label′ : List ℕ) → rowCount w ≤ length goto-or-label′
+      → ((k : ℕ) → k < x → isBlock (class w k) ≡ true → getD goto-or-label′ k 0 ≡ getD goto-or-label k 0)
+      → BlockLabels w p b x goto-or-label → BlockLabels w p b x goto-or-label′
+  goto-or-label-kept x goto-or-label goto-or-label′ room same l = (room, λ k h t. same k h t ∙ l .1 k h t)
 
   -- ---- the sheet and the bindings after row x, with the words at entry
   pub record Written (x faults : ℕ) (sheet bindings sheet′ bindings′ : List ℕ) : Type 0 where
@@ -123,7 +123,7 @@ module _ (w p b : List ℕ) where
       -- the state after the row, from its heads and links
       state : (h′ l′ : List ℕ) → pairCount p < length h′
           → ((c : ℕ) → 0 < c → c ≤ pairCount p → getD h′ c 0 ≡ word (previousPending w p b (suc x) c (suc x)))
-          → BlockLinks w p b (suc x) l′
+          → BlockLabels w p b (suc x) l′
           → ((g : ℕ) → g < suc x → pending w p b (suc x) g ≡ true → 0 < rowCanon w p b g → getD l′ g 0 ≡ word (previousPending w p b (suc x) (rowCanon w p b g) g))
           → Walked w p b (suc x) faults′ s t s′ t′ h′ l′
       state h′ l′ room heads blocks gotos = record {
@@ -136,8 +136,8 @@ module _ (w p b : List ℕ) where
           bound = done .bound;
           heads-room = room;
           heads-are = heads;
-          block-links = blocks;
-          goto-links = gotos;
+          block-labels = blocks;
+          goto-before = gotos;
         };
         sheet-length = done .sheet-length;
         sheet-kept = done .sheet-kept;
@@ -145,8 +145,8 @@ module _ (w p b : List ℕ) where
         bindings-kept = done .bindings-kept;
       }
 
-      -- the row is not pending; its word in the links may change
-      pub walked : (l′ : List ℕ) → pending w p b (suc x) x ≡ false → BlockLinks w p b (suc x) l′ → ((g : ℕ) → (g ≡ x → ⊥) → getD l′ g 0 ≡ getD l g 0)
+      -- the row is not pending; its word in the table may change
+      pub walked : (l′ : List ℕ) → pending w p b (suc x) x ≡ false → BlockLabels w p b (suc x) l′ → ((g : ℕ) → (g ≡ x → ⊥) → getD l′ g 0 ≡ getD l g 0)
           → Walked w p b (suc x) faults′ s t s′ t′ h l′
       walked l′ f blocks same = state h l′ (walking .heads-room)
           (λ c z k. walking .heads-are c z k ∙ ap word (sym (previous-not w p b (suc x) x c f ∙ previous-same w p b x c x n)))
@@ -154,17 +154,17 @@ module _ (w p b : List ℕ) where
           (λ g k q z. elim (ℕ-discrete g x) [
             | yes i ↦ let u : pending w p b (suc x) x ≡ true = rw i at q in absurd (clash (cc))
             | no o ↦
-                same g o ∙ walking .goto-links g (omega arith) (waits-before g q) z ∙ ap word (sym (previous-same w p b x (rowCanon w p b g) g n))
+                same g o ∙ walking .goto-before g (omega arith) (waits-before g q) z ∙ ap word (sym (previous-same w p b x (rowCanon w p b g) g n))
           ])
 
       -- the row is pending and has no canonical number
       pub walked-blank : pending w p b (suc x) x ≡ true → rowCanon w p b x ≡ 0 → isBlock (class w x) ≡ false → Walked w p b (suc x) faults′ s t s′ t′ h l
       walked-blank q e o = state h l (walking .heads-room)
           (λ c z k. walking .heads-are c z k ∙ ap word (sym (previous-other w p b (suc x) x c q (λ i. omega arith) ∙ previous-same w p b x c x n)))
-          (links-other x l o (walking .block-links))
+          (goto-or-label-other x l o (walking .block-labels))
           (λ g k u z. elim (ℕ-discrete g x) [
             | yes i ↦ let v : 0 < rowCanon w p b x = rw i at z in absurd (omega arith)
-            | no m ↦ walking .goto-links g (omega arith) (waits-before g u) z ∙ ap word (sym (previous-same w p b x (rowCanon w p b g) g n))
+            | no m ↦ walking .goto-before g (omega arith) (waits-before g u) z ∙ ap word (sym (previous-same w p b x (rowCanon w p b g) g n))
           ])
 
       -- the row is pending: it comes on top of those of its name
@@ -181,15 +181,15 @@ module _ (w p b : List ℕ) where
                 getD-set-other h c d (suc x) 0 j ∙ walking .heads-are d y m
                 ∙ ap word (sym (previous-other w p b (suc x) x d q (λ i. j (sym i)) ∙ previous-same w p b x d x n))
           ])
-          (links-other x (set l x (getD h c 0)) o
-          (links-kept x l (set l x (getD h c 0)) (rw length-set (walking .block-links .0)) (λ r a u. getD-set-other l x r (getD h c 0) 0 (λ i. omega arith))
-          (walking .block-links)))
+          (goto-or-label-other x (set l x (getD h c 0)) o
+          (goto-or-label-kept x l (set l x (getD h c 0)) (rw length-set (walking .block-labels .0)) (λ r a u. getD-set-other l x r (getD h c 0) 0 (λ i. omega arith))
+          (walking .block-labels)))
           (λ g a u y. elim (ℕ-discrete g x) [
             | yes i ↦
-                rw i (getD-set-same l x (getD h c 0) 0 (omega (arith, walking .block-links .0)) ∙ walking .heads-are c z k
+                rw i (getD-set-same l x (getD h c 0) 0 (omega (arith, walking .block-labels .0)) ∙ walking .heads-are c z k
                 ∙ ap word (sym (previous-same w p b x c x n)))
             | no j ↦
-                getD-set-other l x g (getD h c 0) 0 j ∙ walking .goto-links g (omega arith) (waits-before g u) y
+                getD-set-other l x g (getD h c 0) 0 j ∙ walking .goto-before g (omega arith) (waits-before g u) y
                 ∙ ap word (sym (previous-same w p b x (rowCanon w p b g) g n))
           ])
 
@@ -210,8 +210,8 @@ module _ (w p b : List ℕ) where
 
     pub idle-walked : isBlock (class w x) ≡ false → Walked w p b (suc x) faults s t s t h l
     idle-walked o = walked x faults s t h l row (idle .no-label) walking faults s t idle-written l
-        (pending-other w p b (suc x) x (idle .no-goto)) (links-other x l o (walking .block-links)) (λ g i. refl)
+        (pending-other w p b (suc x) x (idle .no-goto)) (goto-or-label-other x l o (walking .block-labels)) (λ g i. refl)
 
     pub block-walked : (v : ℕ) → v ≡ word (currentLabel w p b x) → Walked w p b (suc x) faults s t s t h (set l x v)
     block-walked v e = walked x faults s t h l row (idle .no-label) walking faults s t idle-written (set l x v)
-        (pending-other w p b (suc x) x (idle .no-goto)) (links-block x v l row e (walking .block-links)) (λ g i. getD-set-other l x g v 0 i)
+        (pending-other w p b (suc x) x (idle .no-goto)) (goto-or-label-block x v l row e (walking .block-labels)) (λ g i. getD-set-other l x g v 0 i)

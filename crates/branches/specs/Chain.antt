@@ -17,9 +17,9 @@ pub data Chain (links : List ℕ) (list : ℕ) : ℕ → List ℕ → ℕ → Ty
   linked : {g last : ℕ} {gs : List ℕ} → list ≤ g → getD links g 0 ≤ g → Chain links list (getD links g 0) gs last → Chain links list (suc g) (g ∷ gs) last
 
 -- how many of the rows stand before the latest declaration (1 + its row, or 0)
-abbrev pub overs : ℕ → List ℕ → ℕ
-overs latest [] = 0
-overs latest (g ∷ gs) = elim (ltb (suc g) latest) [ true ↦ suc (overs latest gs) | false ↦ overs latest gs ]
+abbrev pub countOver : ℕ → List ℕ → ℕ
+countOver latest [] = 0
+countOver latest (g ∷ gs) = elim (ltb (suc g) latest) [ true ↦ suc (countOver latest gs) | false ↦ countOver latest gs ]
 
 -- their reports, in the order of the rows
 abbrev pub three : List ℕ → ℕ → ℕ → List Fault
@@ -49,14 +49,14 @@ pub record Resolving (w sheet bindings links : List ℕ) (head row list latest e
   pub head-in : head ≤ rowCount w
   pub latest-in : latest ≤ rowCount w
   pub bindings-room : rowCount w ≤ length bindings
-  pub from : overs latest (counting .rows) ≤ end
+  pub from : countOver latest (counting .rows) ≤ end
   pub room : end * 4 ≤ length sheet
 
 -- and what it leaves
 pub record Resolved (w sheet bindings sheet′ bindings′ : List ℕ) (row latest end last r : ℕ) (gs : List ℕ) : Type 0 where
   pub left : r ≡ last
   pub bound : bindings′ ≡ stored bindings gs (suc row)
-  pub reported : (start : ℕ) → start + overs latest gs ≡ end → sheet′ ≡ sets sheet (start * 4) (faultWords (threes w latest gs))
+  pub reported : (start : ℕ) → start + countOver latest gs ≡ end → sheet′ ≡ sets sheet (start * 4) (faultWords (threes w latest gs))
 
 -- the label's own binding, or its two reports
 pub record Declaring (w sheet bindings sheet′ bindings′ : List ℕ) (declared row faults r : ℕ) : Type 0 where

@@ -49,11 +49,11 @@ module _ (w p b : List ℕ) where
   latestIn l x = highest (λ d. isClass w declaration d && is (listOf w d) l) x
 
   -- the label that each Block before row x belongs to
-  abbrev pub BlockLinks : ℕ → List ℕ → Type 0
-  BlockLinks x links = (rowCount w ≤ length links) × ((k : ℕ) → k < x → isBlock (class w k) ≡ true → getD links k 0 ≡ word (currentLabel k))
+  abbrev pub BlockLabels : ℕ → List ℕ → Type 0
+  BlockLabels x goto-or-label = (rowCount w ≤ length goto-or-label) × ((k : ℕ) → k < x → isBlock (class w k) ≡ true → getD goto-or-label k 0 ≡ word (currentLabel k))
 
   -- ---- all of it
-  pub record Walking (x faults : ℕ) (sheet bindings heads links : List ℕ) : Type 0 where
+  pub record Walking (x faults : ℕ) (sheet bindings heads goto-or-label : List ℕ) : Type 0 where
     pub rows : x ≤ rowCount w
     pub count : faults ≡ length (faultsAt x)
     pub sheet-room : rowCount w * 8 ≤ length sheet
@@ -62,12 +62,12 @@ module _ (w p b : List ℕ) where
     pub bound : take (rowCount w) bindings ≡ bindingsAt x
     pub heads-room : pairCount p < length heads
     pub heads-are : (c : ℕ) → 0 < c → c ≤ pairCount p → getD heads c 0 ≡ word (previousPending x c x)
-    pub block-links : BlockLinks x links
-    pub goto-links : (g : ℕ) → g < x → pending w p b x g ≡ true → 0 < rowCanon w p b g → getD links g 0 ≡ word (previousPending x (rowCanon w p b g) g)
+    pub block-labels : BlockLabels x goto-or-label
+    pub goto-before : (g : ℕ) → g < x → pending w p b x g ≡ true → 0 < rowCanon w p b g → getD goto-or-label g 0 ≡ word (previousPending x (rowCanon w p b g) g)
 
   -- one more piece of the walk: from the words at entry, the state at x with the words at exit; what is past the sheet and the bindings stays
-  pub record Walked (x faults : ℕ) (sheet bindings sheet′ bindings′ heads′ links′ : List ℕ) : Type 0 where
-    pub state : Walking x faults sheet′ bindings′ heads′ links′
+  pub record Walked (x faults : ℕ) (sheet bindings sheet′ bindings′ heads′ goto-or-label′ : List ℕ) : Type 0 where
+    pub state : Walking x faults sheet′ bindings′ heads′ goto-or-label′
     pub sheet-length : length sheet′ ≡ length sheet
     pub sheet-kept : drop (faults * 4) sheet′ ≡ drop (faults * 4) sheet
     pub bindings-length : length bindings′ ≡ length bindings

@@ -1,6 +1,8 @@
 // Labelled branches: where a break, continue or goto goes.
 use crate::sheet;
 use rows::RowNumber;
+use rows::details;
+use rows::kinds;
 ghost use mathlib.Core.Path.{_≡_};
 ghost use mathlib.Core.Bool.{true};
 ghost use mathlib.Core.List.{[], _∷_};
@@ -9,7 +11,7 @@ ghost use Rattle.rules.specs.Rows.{rowCount, name};
 ghost use Rattle.rules.specs.Class.{break, continue, goto, oneOf, isBranch, class};
 ghost use Rattle.rules.specs.Labels.{earlier, target, validTarget, word};
 ghost use Rattle.tables.specs.Canon.{Tables};
-ghost use Rattle.branches.specs.Walk.{BlockLinks, Walking, Walked};
+ghost use Rattle.branches.specs.Walk.{BlockLabels, Walking, Walked};
 
 fn wide(number: u16) -> usize
     ensures { λ r. ⌜ r ≡ number ⌝ }
@@ -22,20 +24,20 @@ fn goto_target(
     rows: &[u32],
     pairs: &[u32],
     bytes: &[u8],
-    canons: &[u32],
-    declareds: &[u16],
+    canonical: &[u32],
+    label_rows: &[u16],
     lists: &[u16],
     row: RowNumber,
 ) -> usize
-    requires { ⌜ Tables (now rows) (now pairs) (now bytes) (now canons) (now declareds) (now lists) (suc (row .0)) ⌝ }
+    requires { ⌜ Tables (now rows) (now pairs) (now bytes) (now canonical) (now «label_rows») (now lists) (suc (row .0)) ⌝ }
     requires { ⌜ (row .0 < rowCount (now rows)) × (class (now rows) (row .0) ≡ goto) ⌝ }
     ensures { λ r. ⌜ r ≡ word (earlier (now (rows .entry)) (now (pairs .entry)) (now (bytes .entry)) (row .0)) ⌝ }
 {
-    let c = tables::canon_of(rows, canons, row);
+    let c = tables::canon_of(rows, canonical, row);
     if c == 0 {
         return 0;
     }
-    let declared = wide(declareds[c]);
+    let declared = wide(label_rows[c]);
     if declared == 0 {
         return 0;
     }
@@ -60,18 +62,18 @@ fn enclosing_target(
     rows: &[u32],
     pairs: &[u32],
     bytes: &[u8],
-    canons: &[u32],
-    declareds: &[u16],
+    canonical: &[u32],
+    label_rows: &[u16],
     lists: &[u16],
-    links: &[u16],
+    goto_or_label: &[u16],
     row: RowNumber,
 ) -> usize
-    requires { ⌜ Tables (now rows) (now pairs) (now bytes) (now canons) (now declareds) (now lists) (suc (row .0)) ⌝ }
-    requires { ⌜ BlockLinks (now rows) (now pairs) (now bytes) (row .0) (now links) ⌝ }
+    requires { ⌜ Tables (now rows) (now pairs) (now bytes) (now canonical) (now «label_rows») (now lists) (suc (row .0)) ⌝ }
+    requires { ⌜ BlockLabels (now rows) (now pairs) (now bytes) (row .0) (now «goto_or_label») ⌝ }
     requires { ⌜ (row .0 < rowCount (now rows)) × (isBranch (class (now rows) (row .0)) ≡ true) ⌝ }
     ensures { λ r. ⌜ r ≡ word (target (now (rows .entry)) (now (pairs .entry)) (now (bytes .entry)) (row .0)) ⌝ }
 {
-    let c = tables::canon_of(rows, canons, row);
+    let c = tables::canon_of(rows, canonical, row);
     if c == 0 {
         return 0;
     }
@@ -79,10 +81,10 @@ fn enclosing_target(
     let mut list = wide(lists[r]);
     while 0 < list {
         let l = list - 1;
-        if rows::kind(rows, RowNumber(l)) == 12 {
-            let label = wide(links[l]);
+        if rows::kind(rows, RowNumber(l)) == kinds::BLOCK {
+            let label = wide(goto_or_label[l]);
             if label != 0 {
-                if tables::canon_of(rows, canons, RowNumber(label - 1)) == c {
+                if tables::canon_of(rows, canonical, RowNumber(label - 1)) == c {
                     return label;
                 }
             }
@@ -97,26 +99,35 @@ fn valid_target(
     rows: &[u32],
     pairs: &[u32],
     bytes: &[u8],
-    canons: &[u32],
-    declareds: &[u16],
+    canonical: &[u32],
+    label_rows: &[u16],
     lists: &[u16],
-    links: &[u16],
+    goto_or_label: &[u16],
     row: RowNumber,
 ) -> bool
-    requires { ⌜ Tables (now rows) (now pairs) (now bytes) (now canons) (now declareds) (now lists) (suc (row .0)) ⌝ }
-    requires { ⌜ BlockLinks (now rows) (now pairs) (now bytes) (row .0) (now links) ⌝ }
+    requires { ⌜ Tables (now rows) (now pairs) (now bytes) (now canonical) (now «label_rows») (now lists) (suc (row .0)) ⌝ }
+    requires { ⌜ BlockLabels (now rows) (now pairs) (now bytes) (row .0) (now «goto_or_label») ⌝ }
     requires { ⌜ (row .0 < rowCount (now rows)) × (oneOf (break ∷ continue ∷ []) (class (now rows) (row .0)) ≡ true) ⌝ }
     ensures { λ r. ⌜ r ≡ validTarget (now (rows .entry)) (now (pairs .entry)) (now (bytes .entry)) (row .0) ⌝ }
 {
-    let label = enclosing_target(rows, pairs, bytes, canons, declareds, lists, links, row);
+    let label = enclosing_target(
+        rows,
+        pairs,
+        bytes,
+        canonical,
+        label_rows,
+        lists,
+        goto_or_label,
+        row,
+    );
     if label == 0 {
         return false;
     }
     let kind = rows::kind(rows, RowNumber(label));
-    if rows::detail(rows, row) == 0 {
-        rows::kinds::is_breakable(kind)
+    if rows::detail(rows, row) == details::BREAK {
+        kinds::is_breakable(kind)
     } else {
-        rows::kinds::is_loop(kind)
+        kinds::is_loop(kind)
     }
 }
 
@@ -126,25 +137,34 @@ fn break_branches(
     rows: &[u32],
     pairs: &[u32],
     bytes: &[u8],
-    canons: &[u32],
-    declareds: &[u16],
+    canonical: &[u32],
+    label_rows: &[u16],
     lists: &[u16],
     sheet: &mut [u32],
     bindings: &mut [u32],
     heads: &[u16],
-    links: &[u16],
+    goto_or_label: &[u16],
     row: RowNumber,
     faults: usize,
 ) -> usize
-    requires { ⌜ Tables (now rows) (now pairs) (now bytes) (now canons) (now declareds) (now lists) (suc (row .0)) ⌝ }
-    requires { ⌜ Walking (now rows) (now pairs) (now bytes) (row .0) faults (now sheet) (now bindings) (now heads) (now links) ⌝ }
+    requires { ⌜ Tables (now rows) (now pairs) (now bytes) (now canonical) (now «label_rows») (now lists) (suc (row .0)) ⌝ }
+    requires { ⌜ Walking (now rows) (now pairs) (now bytes) (row .0) faults (now sheet) (now bindings) (now heads) (now «goto_or_label») ⌝ }
     requires { ⌜ (row .0 < rowCount (now rows)) × (oneOf (break ∷ continue ∷ []) (class (now rows) (row .0)) ≡ true) × (0 < name (now rows) (row .0)) ⌝ }
-    ensures { λ r. ⌜ Walked (now (rows .entry)) (now (pairs .entry)) (now (bytes .entry)) (suc (row .0)) r (now (sheet .entry)) (now (bindings .entry)) (now (sheet .exit)) (now (bindings .exit)) (now (heads .entry)) (now (links .entry)) ⌝ }
+    ensures { λ r. ⌜ Walked (now (rows .entry)) (now (pairs .entry)) (now (bytes .entry)) (suc (row .0)) r (now (sheet .entry)) (now (bindings .entry)) (now (sheet .exit)) (now (bindings .exit)) (now (heads .entry)) (now («goto_or_label» .entry)) ⌝ }
 {
-    if valid_target(rows, pairs, bytes, canons, declareds, lists, links, row) {
-        let c = tables::canon_of(rows, canons, row);
+    if valid_target(
+        rows,
+        pairs,
+        bytes,
+        canonical,
+        label_rows,
+        lists,
+        goto_or_label,
+        row,
+    ) {
+        let c = tables::canon_of(rows, canonical, row);
         let r = row.0;
-        bindings[r] = declareds[c] as u32;
+        bindings[r] = label_rows[c] as u32;
         return faults;
     }
     let code = 4 + rows::detail(rows, row);
@@ -157,30 +177,30 @@ fn goto_branches(
     rows: &[u32],
     pairs: &[u32],
     bytes: &[u8],
-    canons: &[u32],
-    declareds: &[u16],
+    canonical: &[u32],
+    label_rows: &[u16],
     lists: &[u16],
     sheet: &[u32],
     bindings: &mut [u32],
     heads: &mut [u16],
-    links: &mut [u16],
+    goto_or_label: &mut [u16],
     row: RowNumber,
     faults: usize,
 )
-    requires { ⌜ Tables (now rows) (now pairs) (now bytes) (now canons) (now declareds) (now lists) (suc (row .0)) ⌝ }
-    requires { ⌜ Walking (now rows) (now pairs) (now bytes) (row .0) faults (now sheet) (now bindings) (now heads) (now links) ⌝ }
+    requires { ⌜ Tables (now rows) (now pairs) (now bytes) (now canonical) (now «label_rows») (now lists) (suc (row .0)) ⌝ }
+    requires { ⌜ Walking (now rows) (now pairs) (now bytes) (row .0) faults (now sheet) (now bindings) (now heads) (now «goto_or_label») ⌝ }
     requires { ⌜ (row .0 < rowCount (now rows)) × (class (now rows) (row .0) ≡ goto) ⌝ }
-    ensures { λ _. ⌜ Walked (now (rows .entry)) (now (pairs .entry)) (now (bytes .entry)) (suc (row .0)) faults (now (sheet .entry)) (now (bindings .entry)) (now (sheet .entry)) (now (bindings .exit)) (now (heads .exit)) (now (links .exit)) ⌝ }
+    ensures { λ _. ⌜ Walked (now (rows .entry)) (now (pairs .entry)) (now (bytes .entry)) (suc (row .0)) faults (now (sheet .entry)) (now (bindings .entry)) (now (sheet .entry)) (now (bindings .exit)) (now (heads .exit)) (now («goto_or_label» .exit)) ⌝ }
 {
     let r = row.0;
-    let label = goto_target(rows, pairs, bytes, canons, declareds, lists, row);
+    let label = goto_target(rows, pairs, bytes, canonical, label_rows, lists, row);
     if label != 0 {
         bindings[r] = label as u32;
         return;
     }
-    let c = tables::canon_of(rows, canons, row);
+    let c = tables::canon_of(rows, canonical, row);
     if c != 0 {
-        links[r] = heads[c];
+        goto_or_label[r] = heads[c];
         heads[c] = (r + 1) as u16;
     }
 }
@@ -190,42 +210,42 @@ pub fn jump_branches(
     rows: &[u32],
     pairs: &[u32],
     bytes: &[u8],
-    canons: &[u32],
-    declareds: &[u16],
+    canonical: &[u32],
+    label_rows: &[u16],
     lists: &[u16],
     sheet: &mut [u32],
     bindings: &mut [u32],
     heads: &mut [u16],
-    links: &mut [u16],
+    goto_or_label: &mut [u16],
     row: RowNumber,
     faults: usize,
 ) -> usize
-    requires { ⌜ Tables (now rows) (now pairs) (now bytes) (now canons) (now declareds) (now lists) (suc (row .0)) ⌝ }
-    requires { ⌜ Walking (now rows) (now pairs) (now bytes) (row .0) faults (now sheet) (now bindings) (now heads) (now links) ⌝ }
+    requires { ⌜ Tables (now rows) (now pairs) (now bytes) (now canonical) (now «label_rows») (now lists) (suc (row .0)) ⌝ }
+    requires { ⌜ Walking (now rows) (now pairs) (now bytes) (row .0) faults (now sheet) (now bindings) (now heads) (now «goto_or_label») ⌝ }
     requires { ⌜ (row .0 < rowCount (now rows)) × (isBranch (class (now rows) (row .0)) ≡ true) ⌝ }
-    ensures { λ r. ⌜ Walked (now (rows .entry)) (now (pairs .entry)) (now (bytes .entry)) (suc (row .0)) r (now (sheet .entry)) (now (bindings .entry)) (now (sheet .exit)) (now (bindings .exit)) (now (heads .exit)) (now (links .exit)) ⌝ }
+    ensures { λ r. ⌜ Walked (now (rows .entry)) (now (pairs .entry)) (now (bytes .entry)) (suc (row .0)) r (now (sheet .entry)) (now (bindings .entry)) (now (sheet .exit)) (now (bindings .exit)) (now (heads .exit)) (now («goto_or_label» .exit)) ⌝ }
 {
     let name = rows::name(rows, row);
     if name.0 == 0 {
         return faults;
     }
     let detail = rows::detail(rows, row);
-    if detail == 3 {
+    if detail == details::FALLTHROUGH {
         sheet::put(rows, sheet, faults, 6, row, 0);
         return faults + 1;
     }
-    if detail == 2 {
+    if detail == details::GOTO {
         goto_branches(
             rows,
             pairs,
             bytes,
-            canons,
-            declareds,
+            canonical,
+            label_rows,
             lists,
             sheet,
             bindings,
             heads,
-            links,
+            goto_or_label,
             row,
             faults,
         );
@@ -235,13 +255,13 @@ pub fn jump_branches(
         rows,
         pairs,
         bytes,
-        canons,
-        declareds,
+        canonical,
+        label_rows,
         lists,
         sheet,
         bindings,
         heads,
-        links,
+        goto_or_label,
         row,
         faults,
     )

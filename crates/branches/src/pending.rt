@@ -10,7 +10,7 @@ ghost use lib.ListN.{length};
 ghost use Rattle.rules.specs.Rows.{rowCount};
 ghost use Rattle.rules.specs.Labels.{isLabel, latestDeclaration, word};
 ghost use Rattle.tables.specs.Canon.{Tables};
-ghost use Rattle.branches.specs.Chain.{Chain, overs, Counting, Resolving, Resolved, Declaring};
+ghost use Rattle.branches.specs.Chain.{Chain, countOver, Counting, Resolving, Resolved, Declaring};
 ghost use Rattle.branches.specs.Walk.{Walking, Walked};
 
 fn wide(number: u16) -> usize
@@ -21,9 +21,9 @@ fn wide(number: u16) -> usize
 
 // How many of the pending gotos from `head` on that stand after row `list` jump over the latest
 // declaration.
-fn jumps_over_var_decl(links: &[u16], head: usize, list: usize, latest: usize) -> usize
-    requires { ⌜ Counting (now links) head list ⌝ }
-    ensures { λ r. ⌜ ((gs : List ℕ) (last : ℕ) → Chain (now (links .entry)) list head gs last → r ≡ overs latest gs) ⌝ }
+fn count_jumps_over(goto_or_label: &[u16], head: usize, list: usize, latest: usize) -> usize
+    requires { ⌜ Counting (now «goto_or_label») head list ⌝ }
+    ensures { λ r. ⌜ ((gs : List ℕ) (last : ℕ) → Chain (now («goto_or_label» .entry)) list head gs last → r ≡ countOver latest gs) ⌝ }
 {
     let mut over = 0;
     let mut g = head;
@@ -31,7 +31,7 @@ fn jumps_over_var_decl(links: &[u16], head: usize, list: usize, latest: usize) -
         if g < latest {
             over += 1;
         }
-        g = wide(links[g - 1]);
+        g = wide(goto_or_label[g - 1]);
     }
     over
 }
@@ -43,15 +43,15 @@ fn resolve(
     rows: &[u32],
     sheet: &mut [u32],
     bindings: &mut [u32],
-    links: &[u16],
+    goto_or_label: &[u16],
     head: usize,
     row: RowNumber,
     list: usize,
     latest: usize,
     end: usize,
 ) -> usize
-    requires { ⌜ Resolving (now rows) (now sheet) (now bindings) (now links) head (row .0) list latest end ⌝ }
-    ensures { λ r. ⌜ ((gs : List ℕ) (last : ℕ) → Chain (now (links .entry)) list head gs last → Resolved (now (rows .entry)) (now (sheet .entry)) (now (bindings .entry)) (now (sheet .exit)) (now (bindings .exit)) (row .0) latest end last r gs) ⌝ }
+    requires { ⌜ Resolving (now rows) (now sheet) (now bindings) (now «goto_or_label») head (row .0) list latest end ⌝ }
+    ensures { λ r. ⌜ ((gs : List ℕ) (last : ℕ) → Chain (now («goto_or_label» .entry)) list head gs last → Resolved (now (rows .entry)) (now (sheet .entry)) (now (bindings .entry)) (now (sheet .exit)) (now (bindings .exit)) (row .0) latest end last r gs) ⌝ }
 {
     let mut at = end;
     let mut g = head;
@@ -62,7 +62,7 @@ fn resolve(
             let other = rows::position(rows, RowNumber(latest - 1));
             sheet::put(rows, sheet, at, 3, RowNumber(g - 1), other);
         }
-        g = wide(links[g - 1]);
+        g = wide(goto_or_label[g - 1]);
     }
     g
 }
@@ -97,30 +97,40 @@ pub fn label_branches(
     rows: &[u32],
     pairs: &[u32],
     bytes: &[u8],
-    canons: &[u32],
-    declareds: &[u16],
+    canonical: &[u32],
+    label_rows: &[u16],
     lists: &[u16],
     sheet: &mut [u32],
     bindings: &mut [u32],
     heads: &mut [u16],
-    links: &[u16],
+    goto_or_label: &[u16],
     row: RowNumber,
     latest: usize,
     faults: usize,
 ) -> usize
-    requires { ⌜ Tables (now rows) (now pairs) (now bytes) (now canons) (now declareds) (now lists) (suc (row .0)) ⌝ }
-    requires { ⌜ Walking (now rows) (now pairs) (now bytes) (row .0) faults (now sheet) (now bindings) (now heads) (now links) ⌝ }
+    requires { ⌜ Tables (now rows) (now pairs) (now bytes) (now canonical) (now «label_rows») (now lists) (suc (row .0)) ⌝ }
+    requires { ⌜ Walking (now rows) (now pairs) (now bytes) (row .0) faults (now sheet) (now bindings) (now heads) (now «goto_or_label») ⌝ }
     requires { ⌜ (row .0 < rowCount (now rows)) × (isLabel (now rows) (now pairs) (now bytes) (row .0) ≡ true) ⌝ }
     requires { ⌜ latest ≡ word (latestDeclaration (now rows) (now pairs) (now bytes) (row .0)) ⌝ }
-    ensures { λ r. ⌜ Walked (now (rows .entry)) (now (pairs .entry)) (now (bytes .entry)) (suc (row .0)) r (now (sheet .entry)) (now (bindings .entry)) (now (sheet .exit)) (now (bindings .exit)) (now (heads .exit)) (now (links .entry)) ⌝ }
+    ensures { λ r. ⌜ Walked (now (rows .entry)) (now (pairs .entry)) (now (bytes .entry)) (suc (row .0)) r (now (sheet .entry)) (now (bindings .entry)) (now (sheet .exit)) (now (bindings .exit)) (now (heads .exit)) (now («goto_or_label» .entry)) ⌝ }
 {
-    let c = tables::canon_of(rows, canons, row);
+    let c = tables::canon_of(rows, canonical, row);
     let r = row.0;
-    let more = declare(rows, sheet, bindings, wide(declareds[c]), row, faults);
+    let more = declare(rows, sheet, bindings, wide(label_rows[c]), row, faults);
     let list = wide(lists[r]);
     let head = wide(heads[c]);
-    let end = more + jumps_over_var_decl(links, head, list, latest);
-    let left = resolve(rows, sheet, bindings, links, head, row, list, latest, end);
+    let end = more + count_jumps_over(goto_or_label, head, list, latest);
+    let left = resolve(
+        rows,
+        sheet,
+        bindings,
+        goto_or_label,
+        head,
+        row,
+        list,
+        latest,
+        end,
+    );
     heads[c] = left as u16;
     end
 }

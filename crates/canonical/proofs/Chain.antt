@@ -62,7 +62,7 @@ module _ (p b : List ℕ) (slots s n : ℕ) where
       })
       (λ f. absurd (omega (arith, e ∙ ap word f)))
 
-  module _ (nexts keys firsts : List ℕ) (lk : Linked p b slots n nexts keys firsts) (m : ℕ) (c : Chain p b slots s n m) where
+  module _ (next-in-slot keys firsts : List ℕ) (lk : Linked p b slots n next-in-slot keys firsts) (m : ℕ) (c : Chain p b slots s n m) where
     -- ---- at a name
     module _ (z : 0 < m) where
       at : Stop p b slots s m (c .k)
@@ -71,11 +71,11 @@ module _ (p b : List ℕ) (slots s n : ℕ) where
       at-below : at .j < n
       at-below = omega (arith, at .before, c .within)
 
-      pub chain-falls : getD nexts m 0 < m
+      pub chain-falls : getD next-in-slot m 0 < m
       chain-falls = omega (
         arith,
         at .name,
-        ap (λ (x : ℕ). getD nexts x 0) (at .name) ∙ lk .next-at (at .j) at-below,
+        ap (λ (x : ℕ). getD next-in-slot x 0) (at .name) ∙ lk .next-at (at .j) at-below,
         word-within (inSlot p b slots (slotOf slots (hashAt p b (at .j)))) (at .j),
       )
 
@@ -87,7 +87,7 @@ module _ (p b : List ℕ) (slots s n : ℕ) where
 
       -- the name has other bytes: on to the one before it
       module _ (key : ℕ) (hashed : key ≡ hashAt p b n) (own : s ≡ slotOf slots key) where
-        onward : sameName p b m (suc n) ≡ false → Chain p b slots s n (getD nexts m 0)
+        onward : sameName p b m (suc n) ≡ false → Chain p b slots s n (getD next-in-slot m 0)
         onward f =
             let q = at in
             let h = at-below in
@@ -96,7 +96,7 @@ module _ (p b : List ℕ) (slots s n : ℕ) where
               k = q .j;
               within = omega arith;
               most = omega (arith, chain-falls, c .most);
-              latest = ap (λ (x : ℕ). getD nexts x 0) (q .name) ∙ lk .next-at (q .j) h ∙ ap (λ (x : ℕ). word (highest (inSlot p b slots x) (q .j))) (q .slot);
+              latest = ap (λ (x : ℕ). getD next-in-slot x 0) (q .name) ∙ lk .next-at (q .j) h ∙ ap (λ (x : ℕ). word (highest (inSlot p b slots x) (q .j))) (q .slot);
               passed = λ i l y. elim (ℕ-discrete i (q .j)) [
                 | yes e ↦ rw e g
                 | no o ↦
@@ -107,10 +107,10 @@ module _ (p b : List ℕ) (slots s n : ℕ) where
               ];
             }
 
-        pub chain-next : (t : Bool) → t ≡ sameName p b m (n + 1) → t ≡ false → Chain p b slots s n (getD nexts m 0)
+        pub chain-next : (t : Bool) → t ≡ sameName p b m (n + 1) → t ≡ false → Chain p b slots s n (getD next-in-slot m 0)
         chain-next t d f = onward (rw add-one at (sym d ∙ f))
 
-        pub chain-other : (getD keys m 0 ≡ key → ⊥) → Chain p b slots s n (getD nexts m 0)
+        pub chain-other : (getD keys m 0 ≡ key → ⊥) → Chain p b slots s n (getD next-in-slot m 0)
         chain-other f =
             let q = at in
             let h = at-below in

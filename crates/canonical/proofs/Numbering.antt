@@ -31,7 +31,7 @@ stored Q l n v h f q i m = elim (ℕ-discrete i n) [
 -- the tables h, x, k, f once the first n names are numbered, which were s, y, j, g
 pub record Numbering (p b s y j g h x k f : List ℕ) (n : ℕ) : Type 0 where
   pub heads-length : length h ≡ length s
-  pub nexts-length : length x ≡ length y
+  pub next-in-slot-length : length x ≡ length y
   pub keys-length : length k ≡ length j
   pub firsts-length : length f ≡ length g
   pub room : Room p h x k f
@@ -56,7 +56,7 @@ pub numbering-start : (p b s y j g : List ℕ) → namesOk p b ≡ true → Room
 unfolding highest
 numbering-start p b s y j g t r z = record {
   heads-length = refl;
-  nexts-length = refl;
+  next-in-slot-length = refl;
   keys-length = refl;
   firsts-length = refl;
   room = r;
@@ -98,7 +98,7 @@ module _ (p b s y j g h x k f : List ℕ) (n : ℕ) (r : Numbering p b s y j g h
       names-ok = r .linked .names-ok;
       upto = omega arith;
       next-at = stored (λ i v. v ≡ word (highest (inSlot p b (length h) (slotOf (length h) (hashAt p b i))) i)) x n (getD h at 0)
-          (omega (arith, r .room .nexts-room)) (r .linked .next-at)
+          (omega (arith, r .room .next-in-slot-room)) (r .linked .next-at)
           (r .heads at at< ∙ ap (λ (z : ℕ). word (highest (inSlot p b (length h) z) n)) (sym own-slot));
       key-at = stored (λ i v. v ≡ hashAt p b i) k n key (omega (arith, r .room .keys-room)) (r .linked .key-at) hashed;
       first-at = stored (λ i v. v ≡ first p b (suc i)) f n number (omega (arith, r .room .firsts-room)) (r .linked .first-at) numbered;
@@ -107,12 +107,12 @@ module _ (p b s y j g h x k f : List ℕ) (n : ℕ) (r : Numbering p b s y j g h
     next : Numbering p b s y j g (set h at (suc n)) (set x (suc n) (getD h at 0)) (set k (suc n) key) (set f (suc n) number) (suc n)
     next = record {
       heads-length = length-set h at (suc n) ∙ r .heads-length;
-      nexts-length = length-set x (suc n) (getD h at 0) ∙ r .nexts-length;
+      next-in-slot-length = length-set x (suc n) (getD h at 0) ∙ r .next-in-slot-length;
       keys-length = length-set k (suc n) key ∙ r .keys-length;
       firsts-length = length-set f (suc n) number ∙ r .firsts-length;
       room = record {
         slots = omega (arith, length-set h at (suc n), r .room .slots);
-        nexts-room = omega (arith, length-set x (suc n) (getD h at 0), r .room .nexts-room);
+        next-in-slot-room = omega (arith, length-set x (suc n) (getD h at 0), r .room .next-in-slot-room);
         keys-room = omega (arith, length-set k (suc n) key, r .room .keys-room);
         firsts-room = omega (arith, length-set f (suc n) number, r .room .firsts-room);
       };

@@ -21,7 +21,7 @@ zeros p b firsts slots room t h l m = (
     t,
     record {
       slots = omega (arith, length-replicate {A = ℕ} slots 0);
-      nexts-room = omega (arith, length-replicate {A = ℕ} room 0);
+      next-in-slot-room = omega (arith, length-replicate {A = ℕ} room 0);
       keys-room = omega (arith, length-replicate {A = ℕ} room 0);
       firsts-room = m;
     },

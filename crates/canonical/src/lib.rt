@@ -56,15 +56,15 @@ fn first_same(
     pairs: &[u32],
     bytes: &[u8],
     heads: &[u16],
-    nexts: &[u16],
+    next_in_slot: &[u16],
     keys: &[u32],
     firsts: &[u32],
     n: usize,
     key: u32,
     slot: usize,
 ) -> usize
-    requires { ⌜ Room (now pairs) (now heads) (now nexts) (now keys) (now firsts) × (n < pairCount (now pairs)) ⌝ }
-    requires { ⌜ Heads (now pairs) (now bytes) n (now heads) × Linked (now pairs) (now bytes) (length (now heads)) n (now nexts) (now keys) (now firsts) ⌝ }
+    requires { ⌜ Room (now pairs) (now heads) (now «next_in_slot») (now keys) (now firsts) × (n < pairCount (now pairs)) ⌝ }
+    requires { ⌜ Heads (now pairs) (now bytes) n (now heads) × Linked (now pairs) (now bytes) (length (now heads)) n (now «next_in_slot») (now keys) (now firsts) ⌝ }
     requires { ⌜ (key ≡ hashAt (now pairs) (now bytes) n) × (slot ≡ slotOf (length (now heads)) key) × (slot < length (now heads)) ⌝ }
     ensures { λ r. ⌜ r ≡ first (now (pairs .entry)) (now (bytes .entry)) (suc n) ⌝ }
 {
@@ -75,7 +75,7 @@ fn first_same(
                 return wide_word(firsts[m]);
             }
         }
-        m = wide_number(nexts[m]);
+        m = wide_number(next_in_slot[m]);
     }
     n + 1
 }
@@ -86,11 +86,11 @@ fn number_names(
     pairs: &[u32],
     bytes: &[u8],
     heads: &mut [u16],
-    nexts: &mut [u16],
+    next_in_slot: &mut [u16],
     keys: &mut [u32],
     firsts: &mut [u32],
 )
-    requires { ⌜ (namesOk (now pairs) (now bytes) ≡ true) × Room (now pairs) (now heads) (now nexts) (now keys) (now firsts) ⌝ }
+    requires { ⌜ (namesOk (now pairs) (now bytes) ≡ true) × Room (now pairs) (now heads) (now «next_in_slot») (now keys) (now firsts) ⌝ }
     requires { ⌜ ((s : ℕ) → getD (now heads) s 0 ≡ 0) ⌝ }
     ensures { λ _. ⌜ Numbered (now (pairs .entry)) (now (bytes .entry)) (now (firsts .entry)) (now (firsts .exit)) ⌝ }
 {
@@ -100,10 +100,10 @@ fn number_names(
         let name = n + 1;
         let key = hash(name_part(pairs, bytes, NameNumber(name)));
         let at = slot(wide_word(key), heads.len());
-        let number = first_same(pairs, bytes, heads, nexts, keys, firsts, n, key, at);
+        let number = first_same(pairs, bytes, heads, next_in_slot, keys, firsts, n, key, at);
         firsts[name] = number as u32;
         keys[name] = key;
-        nexts[name] = heads[at];
+        next_in_slot[name] = heads[at];
         heads[at] = name as u16;
         n += 1;
     }
@@ -115,9 +115,16 @@ fn many_numbers(pairs: &[u32], bytes: &[u8], firsts: &mut [u32])
     ensures { λ _. ⌜ Numbered (now (pairs .entry)) (now (bytes .entry)) (now (firsts .entry)) (now (firsts .exit)) ⌝ }
 {
     let mut heads = [0u16; 512];
-    let mut nexts = [0u16; 501];
+    let mut next_in_slot = [0u16; 501];
     let mut keys = [0u32; 501];
-    number_names(pairs, bytes, &mut heads, &mut nexts, &mut keys, firsts);
+    number_names(
+        pairs,
+        bytes,
+        &mut heads,
+        &mut next_in_slot,
+        &mut keys,
+        firsts,
+    );
 }
 
 // The same of up to 31: most bodies have few names, and tables cost time to make.
@@ -126,9 +133,16 @@ fn few_numbers(pairs: &[u32], bytes: &[u8], firsts: &mut [u32])
     ensures { λ _. ⌜ Numbered (now (pairs .entry)) (now (bytes .entry)) (now (firsts .entry)) (now (firsts .exit)) ⌝ }
 {
     let mut heads = [0u16; 32];
-    let mut nexts = [0u16; 32];
+    let mut next_in_slot = [0u16; 32];
     let mut keys = [0u32; 32];
-    number_names(pairs, bytes, &mut heads, &mut nexts, &mut keys, firsts);
+    number_names(
+        pairs,
+        bytes,
+        &mut heads,
+        &mut next_in_slot,
+        &mut keys,
+        firsts,
+    );
 }
 
 // The canonical number of each name of the body at the name's number; the other words stay.

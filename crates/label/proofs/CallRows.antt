@@ -69,8 +69,8 @@ module _ (w p b : List ℕ) where
     bound = bindings-zero w p b t (lent .bindings-room) (lent .bindings-zero);
     heads-room = lent .heads-room;
     heads-are = λ c z y. lent .heads-zero c ∙ ap (λ (o : Option ℕ). word o) (sym (nothing-pending c));
-    block-links = (lent .links-room, λ k y e. absurd (omega arith));
-    goto-links = λ g y e z. absurd (omega arith);
+    block-labels = (lent .goto-or-label-room, λ k y e. absurd (omega arith));
+    goto-before = λ g y e z. absurd (omega arith);
   }
 
 -- the tables are made, but for the lists, and the walk goes on from row 0
@@ -80,7 +80,7 @@ walk-requires {w} {p} {b} body cs′ ds′ cs ds ls s t h l d m u lent by-name b
   record { body = body; by-name = by-name; by-canon = by-canon; lists-room = lent .lists-room; listed = λ r z. absurd (omega arith) },
   (
     walking-start w p b cs ds ls s t h l d m u lent,
-    contexts-start (lent .latests-room) (lent .latests-zero) (lent .labels-room) (lent .labels-zero),
+    contexts-start (lent .latest-decls-room) (lent .latest-decls-zero) (lent .latest-labels-room) (lent .latest-labels-zero),
   ),
 )
 
@@ -148,7 +148,7 @@ module _ {w p b : List ℕ} (body : Body w p b) where
 -- the tables of the pending gotos, which the walk leaves as long as they were
 pub tables-room : {w p cs ds ls s t h l d m u : List ℕ} → Lent w p cs ds ls s t h l d m u → (i j : ℕ) → i ≡ length h → j ≡ length l
     → (pairCount p < i) × (rowCount w ≤ j)
-tables-room lent i j e f = (omega (arith, lent .heads-room), omega (arith, lent .links-room))
+tables-room lent i j e f = (omega (arith, lent .heads-room), omega (arith, lent .goto-or-label-room))
 
 pub unused-start : {w p b : List ℕ} (n m : ℕ) (s t s′ : List ℕ) → AtEnd w p b n s t → Reported m (faultsLeft w p b) s s′
     → Reported m (faultsLeft w p b) s′ s′ × (rowCount w * 8 ≤ length s′)
@@ -164,21 +164,21 @@ lent-zeros {w} {p} body m n s t h k blank =
     let names : pairCount p < length {A = ℕ} (replicate m 0) = omega (arith, length-replicate {A = ℕ} m 0) in
     let rows : rowCount w ≤ length {A = ℕ} (replicate n 0) = omega (arith, length-replicate {A = ℕ} n 0) in
     record {
-      canons-room = names;
-      declareds-room = names;
+      canonical-room = names;
+      label-rows-room = names;
       lists-room = rows;
       sheet-room = blank .sheet-room;
       bindings-room = blank .bindings-room;
       heads-room = names;
-      links-room = rows;
-      latests-room = rows;
-      labels-room = rows;
+      goto-or-label-room = rows;
+      latest-decls-room = rows;
+      latest-labels-room = rows;
       used-room = names;
-      declareds-zero = zeros-at m;
+      label-rows-zero = zeros-at m;
       bindings-zero = blank .bindings-zero;
       heads-zero = zeros-at m;
-      latests-zero = zeros-at n;
-      labels-zero = zeros-at n;
+      latest-decls-zero = zeros-at n;
+      latest-labels-zero = zeros-at n;
       used-zero = zeros-at m;
     }
 

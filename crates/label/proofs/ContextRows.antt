@@ -63,24 +63,24 @@ module _ (w : List ℕ) (Q : ℕ → Bool) where
 
 module _ (w p b : List ℕ) (x : ℕ) (table : List ℕ) where
   -- ---- declarations
-  pub latests-kept : isClass w declaration x ≡ false → ListTable w (latestIn w p b) x table → ListTable w (latestIn w p b) (suc x) table
+  pub latest-decls-kept : isClass w declaration x ≡ false → ListTable w (latestIn w p b) x table → ListTable w (latestIn w p b) (suc x) table
   unfolding latestIn
-  latests-kept = row-kept w (isClass w declaration) x table
+  latest-decls-kept = row-kept w (isClass w declaration) x table
 
-  pub latests-set : (k : ℕ) → isClass w declaration x ≡ true → listOf w x ≡ some k → k < rowCount w → ListTable w (latestIn w p b) x table
+  pub latest-decls-set : (k : ℕ) → isClass w declaration x ≡ true → listOf w x ≡ some k → k < rowCount w → ListTable w (latestIn w p b) x table
       → ListTable w (latestIn w p b) (suc x) (set table k (suc x))
   unfolding latestIn
-  latests-set = row-set w (isClass w declaration) x table
+  latest-decls-set = row-set w (isClass w declaration) x table
 
   -- ---- labels
-  pub labels-kept : isLabel w p b x ≡ false → ListTable w (latestLabel w p b) x table → ListTable w (latestLabel w p b) (suc x) table
+  pub latest-labels-kept : isLabel w p b x ≡ false → ListTable w (latestLabel w p b) x table → ListTable w (latestLabel w p b) (suc x) table
   unfolding latestLabel
-  labels-kept = row-kept w (isLabel w p b) x table
+  latest-labels-kept = row-kept w (isLabel w p b) x table
 
-  pub labels-set : (k : ℕ) → isLabel w p b x ≡ true → listOf w x ≡ some k → k < rowCount w → ListTable w (latestLabel w p b) x table
+  pub latest-labels-set : (k : ℕ) → isLabel w p b x ≡ true → listOf w x ≡ some k → k < rowCount w → ListTable w (latestLabel w p b) x table
       → ListTable w (latestLabel w p b) (suc x) (set table k (suc x))
   unfolding latestLabel
-  labels-set = row-set w (isLabel w p b) x table
+  latest-labels-set = row-set w (isLabel w p b) x table
 
 -- the latest declaration before a label
 pub latest-declaration : (w p b : List ℕ) (x l : ℕ) → listOf w x ≡ some l → latestIn w p b l x ≡ latestDeclaration w p b x
@@ -94,13 +94,13 @@ pub contexts-start : {w p b d t : List ℕ} → rowCount w ≤ length d → ((l 
     → Contexts w p b 0 d t
 unfolding latestIn latestLabel
 contexts-start {w} {p} {b} {d} {t} h z k y = record {
-  latests-are = row-start w (isClass w declaration) 0 d h z;
-  labels-are = row-start w (isLabel w p b) 0 t k y;
+  latest-decls-are = row-start w (isClass w declaration) 0 d h z;
+  latest-labels-are = row-start w (isLabel w p b) 0 t k y;
 }
 
 pub contexts-kept : {w p b d t : List ℕ} {x : ℕ} → isClass w declaration x ≡ false → isLabel w p b x ≡ false → Contexts w p b x d t
     → Contexts w p b (suc x) d t
 contexts-kept {w} {p} {b} {d} {t} {x} f g c = record {
-  latests-are = latests-kept w p b x d f (c .latests-are);
-  labels-are = labels-kept w p b x t g (c .labels-are);
+  latest-decls-are = latest-decls-kept w p b x d f (c .latest-decls-are);
+  latest-labels-are = latest-labels-kept w p b x t g (c .latest-labels-are);
 }

@@ -13,17 +13,17 @@ use Rattle.rules.specs.Scope.{isBlock}
 use Rattle.rules.specs.Labels.{isClass, word}
 use Rattle.rules.proofs.Test.{clash}
 use Rattle.branches.specs.Walk.{latestIn, currentLabel}
-use Rattle.label.specs.Contexts.{latestLabel, ListTable, Listing, Contexts, BlockLinked}
+use Rattle.label.specs.Contexts.{latestLabel, ListTable, Listing, Contexts, BlockLabelled}
 use Rattle.label.proofs.RowWords.{is-block, no-block, is-declaration, other-detail, other-kind, no-block-detail}
-use Rattle.label.proofs.ContextRows.{latests-kept}
+use Rattle.label.proofs.ContextRows.{latest-decls-kept}
 
 module _ {w p b ls d m : List ℕ} {upto : ℕ} (t : Listing w p b ls upto) (x : ℕ) (h : x < rowCount w) (contexts : Contexts w p b x d m)
     (k : ℕ) (e : k ≡ kind w x) (v : ℕ) (ev : v ≡ detail w x) where
-  no-link : isBlock (class w x) ≡ false → {l : List ℕ} → BlockLinked w p b x l l
+  no-link : isBlock (class w x) ≡ false → {l : List ℕ} → BlockLabelled w p b x l l
   no-link n = record { at-block = λ i. absurd (clash (cc)); elsewhere = λ i. refl }
 
   kept : isClass w declaration x ≡ false → ListTable w (latestIn w p b) (suc x) d
-  kept n = latests-kept w p b x d n (contexts .latests-are)
+  kept n = latest-decls-kept w p b x d n (contexts .latest-decls-are)
 
   -- ---- detail 1
   module _ (i : v ≡ 1) {q : Bool} (eq : q ≡ (eqb k 1 || eqb k 7)) where
@@ -31,23 +31,23 @@ module _ {w p b ls d m : List ℕ} {upto : ℕ} (t : Listing w p b ls upto) (x :
     declared-asks y = (t, (contexts, (h, is-declaration (t .body) x h k e v ev i (sym eq ∙ y))))
 
     pub declared-gives : {l d′ : List ℕ} → ListTable w (latestIn w p b) (suc x) d′
-        → BlockLinked w p b x l l × ListTable w (latestIn w p b) (suc x) d′
+        → BlockLabelled w p b x l l × ListTable w (latestIn w p b) (suc x) d′
     declared-gives c = (no-link (no-block-detail (t .body) x h k e v ev i), c)
 
-    pub undeclared-gives : q ≡ false → {l : List ℕ} → BlockLinked w p b x l l × ListTable w (latestIn w p b) (suc x) d
+    pub undeclared-gives : q ≡ false → {l : List ℕ} → BlockLabelled w p b x l l × ListTable w (latestIn w p b) (suc x) d
     undeclared-gives n = (no-link (no-block-detail (t .body) x h k e v ev i), kept (other-kind (t .body) x h k e (sym eq ∙ n)))
 
   -- ---- another detail
   pub block-asks : (l : List ℕ) → rowCount w ≤ length l → k ≡ 12
       → Listing w p b ls upto × (ListTable w (latestLabel w p b) x m × ((x < rowCount w) × (isBlock (class w x) ≡ true) × (rowCount w ≤ length l)))
-  block-asks l room i = (t, (contexts .labels-are, (h, is-block (t .body) x h k e i, room)))
+  block-asks l room i = (t, (contexts .latest-labels-are, (h, is-block (t .body) x h k e i, room)))
 
   pub block-gives : {l l′ : List ℕ} → (v ≡ 1 → ⊥) → k ≡ 12 → l′ ≡ set l x (word (currentLabel w p b x))
-      → BlockLinked w p b x l l′ × ListTable w (latestIn w p b) (suc x) d
+      → BlockLabelled w p b x l l′ × ListTable w (latestIn w p b) (suc x) d
   block-gives n i g = (
     record { at-block = λ y. g; elsewhere = λ f. absurd (clash (cc (is-block (t .body) x h k e i))) },
     kept (other-detail (t .body) x h k e v ev n),
   )
 
-  pub other-gives : {l : List ℕ} → (v ≡ 1 → ⊥) → (k ≡ 12 → ⊥) → BlockLinked w p b x l l × ListTable w (latestIn w p b) (suc x) d
+  pub other-gives : {l : List ℕ} → (v ≡ 1 → ⊥) → (k ≡ 12 → ⊥) → BlockLabelled w p b x l l × ListTable w (latestIn w p b) (suc x) d
   other-gives n i = (no-link (no-block (t .body) x h k e i), kept (other-detail (t .body) x h k e v ev n))

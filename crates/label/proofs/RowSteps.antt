@@ -17,10 +17,10 @@ use Rattle.lists.specs.Listed.{InHand, ListAround}
 use Rattle.lists.proofs.Opened.{passes-on}
 use Rattle.tables.specs.Canon.{Tables}
 use Rattle.branches.specs.Walk.{latestIn, Walking, Walked}
-use Rattle.label.specs.Contexts.{latestLabel, ListTable, Listing, Contexts, BlockLinked}
+use Rattle.label.specs.Contexts.{latestLabel, ListTable, Listing, Contexts, BlockLabelled}
 use Rattle.label.proofs.RowWords.{is-labeled, no-label, is-branch, no-branch, no-items, no-declaration}
 use Rattle.label.proofs.ListRows.{listing}
-use Rattle.label.proofs.ContextRows.{latests-kept, labels-kept, contexts-kept}
+use Rattle.label.proofs.ContextRows.{latest-decls-kept, latest-labels-kept, contexts-kept}
 use Rattle.label.proofs.WalkSteps.{passed, linked}
 
 module _ {w p b cs ds ls : List ℕ} {upto : ℕ} (t : Tables w p b cs ds ls upto) (x : ℕ) (h : x < rowCount w) {f : ℕ} {s bs hs l d m : List ℕ}
@@ -34,8 +34,8 @@ module _ {w p b cs ds ls : List ℕ} {upto : ℕ} (t : Tables w p b cs ds ls upt
   labeled-gives i (a, c) = (
     a,
     record {
-      latests-are = latests-kept w p b x d (no-declaration (t .body) x h k e (λ j. omega arith) (λ j. omega arith)) (contexts .latests-are);
-      labels-are = c;
+      latest-decls-are = latest-decls-kept w p b x d (no-declaration (t .body) x h k e (λ j. omega arith) (λ j. omega arith)) (contexts .latest-decls-are);
+      latest-labels-are = c;
     },
   )
 
@@ -59,9 +59,9 @@ module _ {w p b cs ds ls : List ℕ} {upto : ℕ} (t : Tables w p b cs ds ls upt
 
   -- ---- the others
   pub plain-asks : Listing w p b ls upto × (Contexts w p b x d m × ((x < rowCount w) × (rowCount w ≤ length l)))
-  plain-asks = (listing t, (contexts, (h, walking .block-links .0)))
+  plain-asks = (listing t, (contexts, (h, walking .block-labels .0)))
 
-  pub plain-gives : {l′ d′ : List ℕ} → NoneOf (11 ∷ 3 ∷ []) k → BlockLinked w p b x l l′ × ListTable w (latestIn w p b) (suc x) d′
+  pub plain-gives : {l′ d′ : List ℕ} → NoneOf (11 ∷ 3 ∷ []) k → BlockLabelled w p b x l l′ × ListTable w (latestIn w p b) (suc x) d′
       → Walked w p b (suc x) f s bs s bs hs l′ × Contexts w p b (suc x) d′ m
   plain-gives {l′} ((_, label), branch) (g, c) =
       let no-label-here = no-label (t .body) x h k e label in
@@ -69,5 +69,5 @@ module _ {w p b cs ds ls : List ℕ} {upto : ℕ} (t : Tables w p b cs ds ls upt
         case-of (isBlock (class w x))
             (λ y. linked h walking no-label-here no-branch-here (g .at-block y))
             (λ n. rw (g .elsewhere n) (passed h walking no-label-here no-branch-here n)),
-        record { latests-are = c; labels-are = labels-kept w p b x m no-label-here (contexts .labels-are) },
+        record { latest-decls-are = c; latest-labels-are = latest-labels-kept w p b x m no-label-here (contexts .latest-labels-are) },
       )

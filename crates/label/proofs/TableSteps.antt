@@ -25,7 +25,7 @@ use Rattle.branches.proofs.TableRows.{canon-read}
 use Rattle.label.specs.Contexts.{latestLabel, ListTable, Listing, Contexts}
 use Rattle.label.proofs.ListRows.{list-before, InList, listing, block-word, in-list}
 use Rattle.label.proofs.CurrentLabel.{no-list, no-label, open-label, ended-label, found}
-use Rattle.label.proofs.ContextRows.{latests-set, labels-kept, labels-set, latest-declaration}
+use Rattle.label.proofs.ContextRows.{latest-decls-set, latest-labels-kept, latest-labels-set, latest-declaration}
 
 -- ---- the word of a row's list leads to a place in both tables
 abbrev Placed : ℕ → List ℕ → List ℕ → Type 0
@@ -36,8 +36,8 @@ placed body x h contexts list j =
     let before = j .before in (
       j .some-row,
       omega (arith, body .most-rows),
-      omega (arith, contexts .latests-are .room),
-      omega (arith, contexts .labels-are .room),
+      omega (arith, contexts .latest-decls-are .room),
+      omega (arith, contexts .latest-labels-are .room),
     )
 
 -- ---- a declaration
@@ -61,7 +61,7 @@ module _ {w p b ls d m : List ℕ} {x : ℕ} (t : Listing w p b ls (suc x)) (h :
     declared =
         let j = its-list in
         let before = j .before in
-        rw (declared-row, add-one x) (latests-set w p b x d (list - 1) declares (j .is-list) (omega arith) (contexts .latests-are))
+        rw (declared-row, add-one x) (latest-decls-set w p b x d (list - 1) declares (j .is-list) (omega arith) (contexts .latest-decls-are))
 
 -- ---- a Labeled row; n is its canonical number
 module _ {w p b cs ds ls d m : List ℕ} {x : ℕ} (t : Tables w p b cs ds ls (suc x)) (h : x < rowCount w) (c : class w x ≡ labeled) (contexts : Contexts w p b x d m)
@@ -72,7 +72,7 @@ module _ {w p b cs ds ls d m : List ℕ} {x : ℕ} (t : Tables w p b cs ds ls (s
       (λ u. u)
 
   pub unlabelled : n ≡ 0 → ListTable w (latestLabel w p b) (suc x) m
-  unlabelled z = labels-kept w p b x m (blank z) (contexts .labels-are)
+  unlabelled z = latest-labels-kept w p b x m (blank z) (contexts .latest-labels-are)
 
   module _ (z : n ≡ 0 → ⊥) (list : ℕ) (e : list ≡ getD ls x 0) where
     pub labels : isLabel w p b x ≡ true
@@ -96,13 +96,13 @@ module _ {w p b cs ds ls d m : List ℕ} {x : ℕ} (t : Tables w p b cs ds ls (s
       label-latest i =
           let j = label-in in
           let before = j .before in
-          ap (λ (y : Context). y .latest) ec ∙ i ∙ contexts .latests-are .at-list (list - 1) (omega arith) ∙ ap word (latest-declaration w p b x (list - 1) (j .is-list))
+          ap (λ (y : Context). y .latest) ec ∙ i ∙ contexts .latest-decls-are .at-list (list - 1) (omega arith) ∙ ap word (latest-declaration w p b x (list - 1) (j .is-list))
 
       pub labelled : ListTable w (latestLabel w p b) (suc x) (set m (list - 1) (now .label))
       labelled =
           let j = label-in in
           let before = j .before in
-          rw (labelled-row, add-one x) (labels-set w p b x m (list - 1) labels (j .is-list) (omega arith) (contexts .labels-are))
+          rw (labelled-row, add-one x) (latest-labels-set w p b x m (list - 1) labels (j .is-list) (omega arith) (contexts .latest-labels-are))
 
 -- ---- a Block; `label` is the word of its list in the table of the labels, s the size of that label's statement
 module _ {w p b ls m : List ℕ} {x : ℕ} (t : Listing w p b ls (suc x)) (h : x < rowCount w) (u : isBlock (class w x) ≡ true)

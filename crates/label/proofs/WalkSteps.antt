@@ -72,18 +72,18 @@ pub record Turn (w p b : List ℕ) (x f : ℕ) (s₀ b₀ h₀ l₀ d₀ t₀ s 
   pub so-far : Walked w p b x f s₀ b₀ s bs hs l
   pub contexts : Contexts w p b x d t
   pub heads-length : length hs ≡ length h₀
-  pub links-length : length l ≡ length l₀
-  pub latests-length : length d ≡ length d₀
-  pub labels-length : length t ≡ length t₀
+  pub goto-or-label-length : length l ≡ length l₀
+  pub latest-decls-length : length d ≡ length d₀
+  pub latest-labels-length : length t ≡ length t₀
 
 pub turn-first : {w p b s bs hs l d t : List ℕ} → Walking w p b 0 0 s bs hs l → Contexts w p b 0 d t → Turn w p b 0 0 s bs hs l d t s bs hs l d t
 turn-first a c = record {
   so-far = record { state = a; sheet-length = refl; sheet-kept = refl; bindings-length = refl; bindings-kept = refl };
   contexts = c;
   heads-length = refl;
-  links-length = refl;
-  latests-length = refl;
-  labels-length = refl;
+  goto-or-label-length = refl;
+  latest-decls-length = refl;
+  latest-labels-length = refl;
 }
 
 pub turn-next : {w p b s₀ b₀ h₀ l₀ d₀ t₀ s bs hs l d t s′ b′ h′ l′ d′ t′ : List ℕ} {x f f′ : ℕ} → Turn w p b x f s₀ b₀ h₀ l₀ d₀ t₀ s bs hs l d t
@@ -94,9 +94,9 @@ turn-next {x = x} a y c i j k m = rw (add-one x) (record {
   so-far = walked-then (omega arith) (a .so-far) y;
   contexts = c;
   heads-length = i ∙ a .heads-length;
-  links-length = j ∙ a .links-length;
-  latests-length = k ∙ a .latests-length;
-  labels-length = m ∙ a .labels-length;
+  goto-or-label-length = j ∙ a .goto-or-label-length;
+  latest-decls-length = k ∙ a .latest-decls-length;
+  latest-labels-length = m ∙ a .latest-labels-length;
 })
 
 pub turn-last : {w p b s₀ b₀ h₀ l₀ d₀ t₀ s bs hs l d t : List ℕ} {x f : ℕ} → Turn w p b x f s₀ b₀ h₀ l₀ d₀ t₀ s bs hs l d t → rowCount w ≤ x

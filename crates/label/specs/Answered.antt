@@ -26,22 +26,22 @@ pub record Blank (w sheet bindings : List ℕ) : Type 0 where
   pub bindings-zero : (g : ℕ) → g < rowCount w → getD bindings g 0 ≡ 0
 
 -- room for each table, and 0 where the walk starts from 0
-pub record Lent (w p canons declareds lists sheet bindings heads links latests labels used : List ℕ) : Type 0 where
-  pub canons-room : pairCount p < length canons
-  pub declareds-room : pairCount p < length declareds
+pub record Lent (w p canonical label-rows lists sheet bindings heads goto-or-label latest-decls latest-labels used : List ℕ) : Type 0 where
+  pub canonical-room : pairCount p < length canonical
+  pub label-rows-room : pairCount p < length label-rows
   pub lists-room : rowCount w ≤ length lists
   pub sheet-room : rowCount w * 8 ≤ length sheet
   pub bindings-room : rowCount w ≤ length bindings
   pub heads-room : pairCount p < length heads
-  pub links-room : rowCount w ≤ length links
-  pub latests-room : rowCount w ≤ length latests
-  pub labels-room : rowCount w ≤ length labels
+  pub goto-or-label-room : rowCount w ≤ length goto-or-label
+  pub latest-decls-room : rowCount w ≤ length latest-decls
+  pub latest-labels-room : rowCount w ≤ length latest-labels
   pub used-room : pairCount p < length used
-  pub declareds-zero : (c : ℕ) → getD declareds c 0 ≡ 0
+  pub label-rows-zero : (c : ℕ) → getD label-rows c 0 ≡ 0
   pub bindings-zero : (g : ℕ) → g < rowCount w → getD bindings g 0 ≡ 0
   pub heads-zero : (c : ℕ) → getD heads c 0 ≡ 0
-  pub latests-zero : (l : ℕ) → getD latests l 0 ≡ 0
-  pub labels-zero : (l : ℕ) → getD labels l 0 ≡ 0
+  pub latest-decls-zero : (l : ℕ) → getD latest-decls l 0 ≡ 0
+  pub latest-labels-zero : (l : ℕ) → getD latest-labels l 0 ≡ 0
   pub used-zero : (c : ℕ) → getD used c 0 ≡ 0
 
 -- the sheet's row count, and both written

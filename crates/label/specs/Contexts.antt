@@ -26,9 +26,9 @@ module _ (w p b : List ℕ) where
   latestLabel l x = highest (λ t. isLabel w p b t && is (listOf w t) l) x
 
   -- both tables at row x
-  pub record Contexts (x : ℕ) (latests labels : List ℕ) : Type 0 where
-    pub latests-are : ListTable w (latestIn w p b) x latests
-    pub labels-are : ListTable w latestLabel x labels
+  pub record Contexts (x : ℕ) (latest-decls latest-labels : List ℕ) : Type 0 where
+    pub latest-decls-are : ListTable w (latestIn w p b) x latest-decls
+    pub latest-labels-are : ListTable w latestLabel x latest-labels
 
   -- a well-formed body, and the lists of the rows before x
   pub record Listing (lists : List ℕ) (x : ℕ) : Type 0 where
@@ -36,7 +36,7 @@ module _ (w p b : List ℕ) where
     pub room : rowCount w ≤ length lists
     pub listed : ListedBelow w lists x
 
-  -- the links at row x and after it: a Block's own is set, every other row leaves them
-  pub record BlockLinked (x : ℕ) (links later : List ℕ) : Type 0 where
-    pub at-block : isBlock (class w x) ≡ true → later ≡ set links x (word (currentLabel w p b x))
-    pub elsewhere : isBlock (class w x) ≡ false → later ≡ links
+  -- the table at row x and after it: a Block's own word is set, every other row leaves it
+  pub record BlockLabelled (x : ℕ) (goto-or-label later : List ℕ) : Type 0 where
+    pub at-block : isBlock (class w x) ≡ true → later ≡ set goto-or-label x (word (currentLabel w p b x))
+    pub elsewhere : isBlock (class w x) ≡ false → later ≡ goto-or-label

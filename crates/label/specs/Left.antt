@@ -28,17 +28,17 @@ module _ (w p b : List ℕ) where
 
   -- which declared labels they use, by canonical number
   abbrev pub UsedBefore : ℕ → List ℕ → Type 0
-  UsedBefore r useds = (c d : ℕ) → 0 < c → c ≤ pairCount p → declaredFor w p b c ≡ some d → eqb (getD useds c 0) 0 ≡ not (usedBefore r d)
+  UsedBefore r used-table = (c d : ℕ) → 0 < c → c ≤ pairCount p → declaredFor w p b c ≡ some d → eqb (getD used-table c 0) 0 ≡ not (usedBefore r d)
 
-  pub record Left (r faults : ℕ) (sheet useds : List ℕ) : Type 0 where
+  pub record Left (r faults : ℕ) (sheet used-table : List ℕ) : Type 0 where
     pub count : faults ≡ length (leftAt r)
     pub sheet-room : rowCount w * 8 ≤ length sheet
     pub reported : take (faults * 4) sheet ≡ faultWords (leftAt r)
-    pub used-room : pairCount p < length useds
-    pub used-at : UsedBefore r useds
+    pub used-room : pairCount p < length used-table
+    pub used-at : UsedBefore r used-table
 
   -- one more row: from the sheet at entry, the state at r with the words at exit; what is past the sheet's rows stays
-  pub record LeftOver (r faults : ℕ) (sheet sheet′ useds′ : List ℕ) : Type 0 where
-    pub state : Left r faults sheet′ useds′
+  pub record LeftOver (r faults : ℕ) (sheet sheet′ used-table′ : List ℕ) : Type 0 where
+    pub state : Left r faults sheet′ used-table′
     pub sheet-length : length sheet′ ≡ length sheet
     pub sheet-kept : drop (faults * 4) sheet′ ≡ drop (faults * 4) sheet

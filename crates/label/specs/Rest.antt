@@ -37,9 +37,9 @@ module _ (w p b : List ℕ) where
     pub bound : take (rowCount w) bindings ≡ bindingsAt w p b (rowCount w)
 
   -- which declared labels are used, by canonical number
-  pub record UsedTable (useds : List ℕ) : Type 0 where
-    pub room : pairCount p < length useds
-    pub at-canon : (c d : ℕ) → 0 < c → c ≤ pairCount p → declaredFor w p b c ≡ some d → eqb (getD useds c 0) 0 ≡ not (used w p b d)
+  pub record UsedTable (used-table : List ℕ) : Type 0 where
+    pub room : pairCount p < length used-table
+    pub at-canon : (c d : ℕ) → 0 < c → c ≤ pairCount p → declaredFor w p b c ≡ some d → eqb (getD used-table c 0) 0 ≡ not (used w p b d)
 
   -- the label declared for the canonical number c is not used
   unfoldable pub isUnused : ℕ → Bool

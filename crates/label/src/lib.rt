@@ -60,43 +60,43 @@ fn walk_body(
     rows: &[u32],
     pairs: &[u32],
     bytes: &[u8],
-    canons: &mut [u32],
-    declareds: &mut [u16],
+    canonical: &mut [u32],
+    label_rows: &mut [u16],
     lists: &mut [u16],
     sheet: &mut [u32],
     bindings: &mut [u32],
     heads: &mut [u16],
-    links: &mut [u16],
-    latests: &mut [u16],
-    labels: &mut [u16],
+    goto_or_label: &mut [u16],
+    latest_decls: &mut [u16],
+    latest_labels: &mut [u16],
     used: &mut [u8],
 ) -> usize
     requires { ⌜ Body (now rows) (now pairs) (now bytes) ⌝ }
-    requires { ⌜ Lent (now rows) (now pairs) (now canons) (now declareds) (now lists) (now sheet) (now bindings) (now heads) (now links) (now latests) (now labels) (now used) ⌝ }
+    requires { ⌜ Lent (now rows) (now pairs) (now canonical) (now «label_rows») (now lists) (now sheet) (now bindings) (now heads) (now «goto_or_label») (now «latest_decls») (now «latest_labels») (now used) ⌝ }
     ensures { λ r. ⌜ Answered (now (rows .entry)) (now (pairs .entry)) (now (bytes .entry)) r (now (sheet .entry)) (now (bindings .entry)) (now (sheet .exit)) (now (bindings .exit)) ⌝ }
 {
-    tables::canon_table(pairs, bytes, canons);
-    tables::declared_table(rows, pairs, bytes, canons, declareds);
+    tables::canon_table(pairs, bytes, canonical);
+    tables::declared_table(rows, pairs, bytes, canonical, label_rows);
     let walked = walk::rows_branches(
         rows,
         pairs,
         bytes,
-        canons,
-        declareds,
+        canonical,
+        label_rows,
         lists,
         sheet,
         bindings,
         heads,
-        links,
-        latests,
-        labels,
+        goto_or_label,
+        latest_decls,
+        latest_labels,
     );
     let more = rest::unresolved(
         rows,
         pairs,
         bytes,
-        canons,
-        declareds,
+        canonical,
+        label_rows,
         sheet,
         bindings,
         used,
@@ -106,10 +106,10 @@ fn walk_body(
         rows,
         pairs,
         bytes,
-        declareds,
+        label_rows,
         used,
         heads,
-        links,
+        goto_or_label,
         sheet,
         more,
     )
@@ -127,27 +127,27 @@ fn walk_large(
     requires { ⌜ Blank (now rows) (now sheet) (now bindings) ⌝ }
     ensures { λ r. ⌜ Answered (now (rows .entry)) (now (pairs .entry)) (now (bytes .entry)) r (now (sheet .entry)) (now (bindings .entry)) (now (sheet .exit)) (now (bindings .exit)) ⌝ }
 {
-    let mut canons = [0u32; 501];
-    let mut declareds = [0u16; 501];
+    let mut canonical = [0u32; 501];
+    let mut label_rows = [0u16; 501];
     let mut heads = [0u16; 501];
     let mut used = [0u8; 501];
     let mut lists = [0u16; 2000];
-    let mut links = [0u16; 2000];
-    let mut latests = [0u16; 2000];
-    let mut labels = [0u16; 2000];
+    let mut goto_or_label = [0u16; 2000];
+    let mut latest_decls = [0u16; 2000];
+    let mut latest_labels = [0u16; 2000];
     walk_body(
         rows,
         pairs,
         bytes,
-        &mut canons,
-        &mut declareds,
+        &mut canonical,
+        &mut label_rows,
         &mut lists,
         sheet,
         bindings,
         &mut heads,
-        &mut links,
-        &mut latests,
-        &mut labels,
+        &mut goto_or_label,
+        &mut latest_decls,
+        &mut latest_labels,
         &mut used,
     )
 }
@@ -164,27 +164,27 @@ fn walk_small(
     requires { ⌜ Blank (now rows) (now sheet) (now bindings) ⌝ }
     ensures { λ r. ⌜ Answered (now (rows .entry)) (now (pairs .entry)) (now (bytes .entry)) r (now (sheet .entry)) (now (bindings .entry)) (now (sheet .exit)) (now (bindings .exit)) ⌝ }
 {
-    let mut canons = [0u32; 32];
-    let mut declareds = [0u16; 32];
+    let mut canonical = [0u32; 32];
+    let mut label_rows = [0u16; 32];
     let mut heads = [0u16; 32];
     let mut used = [0u8; 32];
     let mut lists = [0u16; 128];
-    let mut links = [0u16; 128];
-    let mut latests = [0u16; 128];
-    let mut labels = [0u16; 128];
+    let mut goto_or_label = [0u16; 128];
+    let mut latest_decls = [0u16; 128];
+    let mut latest_labels = [0u16; 128];
     walk_body(
         rows,
         pairs,
         bytes,
-        &mut canons,
-        &mut declareds,
+        &mut canonical,
+        &mut label_rows,
         &mut lists,
         sheet,
         bindings,
         &mut heads,
-        &mut links,
-        &mut latests,
-        &mut labels,
+        &mut goto_or_label,
+        &mut latest_decls,
+        &mut latest_labels,
         &mut used,
     )
 }

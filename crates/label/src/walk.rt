@@ -7,6 +7,7 @@ use lists::Around;
 use lists::list_after;
 use lists::list_at;
 use rows::RowNumber;
+use rows::kinds;
 ghost use mathlib.Core.Path.{_≡_};
 ghost use mathlib.Core.Bool.{true, _||_};
 ghost use Prim.Native.Nat.{suc, _+_, _-_, _≤_, _<_};
@@ -19,7 +20,7 @@ ghost use Rattle.rules.specs.Labels.{isClass, word};
 ghost use Rattle.lists.specs.Listed.{InHand, ListAround};
 ghost use Rattle.tables.specs.Canon.{Tables};
 ghost use Rattle.branches.specs.Walk.{currentLabel, latestIn, Walking, Walked};
-ghost use Rattle.label.specs.Contexts.{latestLabel, ListTable, Listing, Contexts, BlockLinked};
+ghost use Rattle.label.specs.Contexts.{latestLabel, ListTable, Listing, Contexts, BlockLabelled};
 
 fn wide(number: u16) -> usize
     ensures { λ r. ⌜ r ≡ number ⌝ }
@@ -28,13 +29,13 @@ fn wide(number: u16) -> usize
 }
 
 // The context of a list, which is given as 1 + its row.
-fn context_of(latests: &[u16], labels: &[u16], list: usize) -> Context
-    requires { ⌜ (0 < list) × (list ≤ 2000) × (list ≤ length (now latests)) × (list ≤ length (now labels)) ⌝ }
-    ensures { λ r. ⌜ (r .latest ≡ getD (now (latests .entry)) (list - 1) 0) × (r .label ≡ getD (now (labels .entry)) (list - 1) 0) ⌝ }
+fn context_of(latest_decls: &[u16], latest_labels: &[u16], list: usize) -> Context
+    requires { ⌜ (0 < list) × (list ≤ 2000) × (list ≤ length (now «latest_decls»)) × (list ≤ length (now «latest_labels»)) ⌝ }
+    ensures { λ r. ⌜ (r .latest ≡ getD (now («latest_decls» .entry)) (list - 1) 0) × (r .label ≡ getD (now («latest_labels» .entry)) (list - 1) 0) ⌝ }
 {
     Context {
-        latest: wide(latests[list - 1]),
-        label: wide(labels[list - 1]),
+        latest: wide(latest_decls[list - 1]),
+        label: wide(latest_labels[list - 1]),
     }
 }
 
@@ -44,19 +45,19 @@ fn decl_branches(
     pairs: &[u32],
     bytes: &[u8],
     lists: &[u16],
-    latests: &mut [u16],
-    labels: &[u16],
+    latest_decls: &mut [u16],
+    latest_labels: &[u16],
     row: RowNumber,
 )
     requires { ⌜ Listing (now rows) (now pairs) (now bytes) (now lists) (suc (row .0)) ⌝ }
-    requires { ⌜ Contexts (now rows) (now pairs) (now bytes) (row .0) (now latests) (now labels) ⌝ }
+    requires { ⌜ Contexts (now rows) (now pairs) (now bytes) (row .0) (now «latest_decls») (now «latest_labels») ⌝ }
     requires { ⌜ (row .0 < rowCount (now rows)) × (isClass (now rows) declaration (row .0) ≡ true) ⌝ }
-    ensures { λ _. ⌜ ListTable (now (rows .entry)) (latestIn (now (rows .entry)) (now (pairs .entry)) (now (bytes .entry))) (suc (row .0)) (now (latests .exit)) ⌝ }
+    ensures { λ _. ⌜ ListTable (now (rows .entry)) (latestIn (now (rows .entry)) (now (pairs .entry)) (now (bytes .entry))) (suc (row .0)) (now («latest_decls» .exit)) ⌝ }
 {
     let r = row.0;
     let list = wide(lists[r]);
-    let ctx = context::declared(context_of(latests, labels, list), r + 1);
-    latests[list - 1] = ctx.latest as u16;
+    let ctx = context::declared(context_of(latest_decls, latest_labels, list), r + 1);
+    latest_decls[list - 1] = ctx.latest as u16;
 }
 
 // The label that a Block belongs to: the latest of its list, if the Block stands inside that
@@ -66,11 +67,11 @@ fn current_label(
     pairs: &[u32],
     bytes: &[u8],
     lists: &[u16],
-    labels: &[u16],
+    latest_labels: &[u16],
     row: RowNumber,
 ) -> u16
     requires { ⌜ Listing (now rows) (now pairs) (now bytes) (now lists) (suc (row .0)) ⌝ }
-    requires { ⌜ ListTable (now rows) (latestLabel (now rows) (now pairs) (now bytes)) (row .0) (now labels) ⌝ }
+    requires { ⌜ ListTable (now rows) (latestLabel (now rows) (now pairs) (now bytes)) (row .0) (now «latest_labels») ⌝ }
     requires { ⌜ (row .0 < rowCount (now rows)) × (isBlock (class (now rows) (row .0)) ≡ true) ⌝ }
     ensures { λ r. ⌜ r ≡ word (currentLabel (now (rows .entry)) (now (pairs .entry)) (now (bytes .entry)) (row .0)) ⌝ }
 {
@@ -79,7 +80,7 @@ fn current_label(
     if list == 0 {
         return 0;
     }
-    let label = labels[list - 1];
+    let label = latest_labels[list - 1];
     if label == 0 {
         return 0;
     }
@@ -91,32 +92,32 @@ fn current_label(
 }
 
 // A Block: its link is the label that it belongs to.
-fn block_branches(
+fn set_block_label(
     rows: &[u32],
     pairs: &[u32],
     bytes: &[u8],
     lists: &[u16],
-    labels: &[u16],
-    links: &mut [u16],
+    latest_labels: &[u16],
+    goto_or_label: &mut [u16],
     row: RowNumber,
 )
     requires { ⌜ Listing (now rows) (now pairs) (now bytes) (now lists) (suc (row .0)) ⌝ }
-    requires { ⌜ ListTable (now rows) (latestLabel (now rows) (now pairs) (now bytes)) (row .0) (now labels) ⌝ }
-    requires { ⌜ (row .0 < rowCount (now rows)) × (isBlock (class (now rows) (row .0)) ≡ true) × (rowCount (now rows) ≤ length (now links)) ⌝ }
-    ensures { λ _. ⌜ now (links .exit) ≡ set (now (links .entry)) (row .0) (word (currentLabel (now (rows .entry)) (now (pairs .entry)) (now (bytes .entry)) (row .0))) ⌝ }
+    requires { ⌜ ListTable (now rows) (latestLabel (now rows) (now pairs) (now bytes)) (row .0) (now «latest_labels») ⌝ }
+    requires { ⌜ (row .0 < rowCount (now rows)) × (isBlock (class (now rows) (row .0)) ≡ true) × (rowCount (now rows) ≤ length (now «goto_or_label»)) ⌝ }
+    ensures { λ _. ⌜ now («goto_or_label» .exit) ≡ set (now («goto_or_label» .entry)) (row .0) (word (currentLabel (now (rows .entry)) (now (pairs .entry)) (now (bytes .entry)) (row .0))) ⌝ }
 {
     let r = row.0;
-    links[r] = current_label(rows, pairs, bytes, lists, labels, row);
+    goto_or_label[r] = current_label(rows, pairs, bytes, lists, latest_labels, row);
 }
 
 // Whether a row of this kind and detail 1 is a declaration: Decl or Assign.
 fn may_declare(kind: u32) -> bool
     ensures { λ r. ⌜ r ≡ (eqb kind 1 || eqb kind 7) ⌝ }
 {
-    if kind == 1 {
+    if kind == kinds::DECL {
         return true;
     }
-    kind == 7
+    kind == kinds::ASSIGN
 }
 
 // A row that is no label and no branch: a declaration, a Block, or one that changes nothing. Few
@@ -126,26 +127,26 @@ fn plain_branches(
     pairs: &[u32],
     bytes: &[u8],
     lists: &[u16],
-    links: &mut [u16],
-    latests: &mut [u16],
-    labels: &[u16],
+    goto_or_label: &mut [u16],
+    latest_decls: &mut [u16],
+    latest_labels: &[u16],
     row: RowNumber,
 )
     requires { ⌜ Listing (now rows) (now pairs) (now bytes) (now lists) (suc (row .0)) ⌝ }
-    requires { ⌜ Contexts (now rows) (now pairs) (now bytes) (row .0) (now latests) (now labels) ⌝ }
-    requires { ⌜ (row .0 < rowCount (now rows)) × (rowCount (now rows) ≤ length (now links)) ⌝ }
-    ensures links { λ _. ⌜ BlockLinked (now (rows .entry)) (now (pairs .entry)) (now (bytes .entry)) (row .0) (now (links .entry)) (now (links .exit)) ⌝ }
-    ensures latests { λ _. ⌜ ListTable (now (rows .entry)) (latestIn (now (rows .entry)) (now (pairs .entry)) (now (bytes .entry))) (suc (row .0)) (now (latests .exit)) ⌝ }
+    requires { ⌜ Contexts (now rows) (now pairs) (now bytes) (row .0) (now «latest_decls») (now «latest_labels») ⌝ }
+    requires { ⌜ (row .0 < rowCount (now rows)) × (rowCount (now rows) ≤ length (now «goto_or_label»)) ⌝ }
+    ensures blocks { λ _. ⌜ BlockLabelled (now (rows .entry)) (now (pairs .entry)) (now (bytes .entry)) (row .0) (now («goto_or_label» .entry)) (now («goto_or_label» .exit)) ⌝ }
+    ensures decls { λ _. ⌜ ListTable (now (rows .entry)) (latestIn (now (rows .entry)) (now (pairs .entry)) (now (bytes .entry))) (suc (row .0)) (now («latest_decls» .exit)) ⌝ }
 {
     let kind = rows::kind(rows, row);
     if rows::detail(rows, row) == 1 {
         if may_declare(kind) {
-            decl_branches(rows, pairs, bytes, lists, latests, labels, row);
+            decl_branches(rows, pairs, bytes, lists, latest_decls, latest_labels, row);
         }
         return;
     }
-    if kind == 12 {
-        block_branches(rows, pairs, bytes, lists, labels, links, row);
+    if kind == kinds::BLOCK {
+        set_block_label(rows, pairs, bytes, lists, latest_labels, goto_or_label, row);
     }
 }
 
@@ -154,43 +155,43 @@ fn labeled_branches(
     rows: &[u32],
     pairs: &[u32],
     bytes: &[u8],
-    canons: &[u32],
-    declareds: &[u16],
+    canonical: &[u32],
+    label_rows: &[u16],
     lists: &[u16],
     sheet: &mut [u32],
     bindings: &mut [u32],
     heads: &mut [u16],
-    links: &[u16],
-    latests: &[u16],
-    labels: &mut [u16],
+    goto_or_label: &[u16],
+    latest_decls: &[u16],
+    latest_labels: &mut [u16],
     row: RowNumber,
     faults: usize,
 ) -> usize
-    requires { ⌜ Tables (now rows) (now pairs) (now bytes) (now canons) (now declareds) (now lists) (suc (row .0)) ⌝ }
-    requires { ⌜ Walking (now rows) (now pairs) (now bytes) (row .0) faults (now sheet) (now bindings) (now heads) (now links) ⌝ }
-    requires { ⌜ Contexts (now rows) (now pairs) (now bytes) (row .0) (now latests) (now labels) ⌝ }
+    requires { ⌜ Tables (now rows) (now pairs) (now bytes) (now canonical) (now «label_rows») (now lists) (suc (row .0)) ⌝ }
+    requires { ⌜ Walking (now rows) (now pairs) (now bytes) (row .0) faults (now sheet) (now bindings) (now heads) (now «goto_or_label») ⌝ }
+    requires { ⌜ Contexts (now rows) (now pairs) (now bytes) (row .0) (now «latest_decls») (now «latest_labels») ⌝ }
     requires { ⌜ (row .0 < rowCount (now rows)) × (class (now rows) (row .0) ≡ labeled) ⌝ }
-    ensures walked { λ r. ⌜ Walked (now (rows .entry)) (now (pairs .entry)) (now (bytes .entry)) (suc (row .0)) r (now (sheet .entry)) (now (bindings .entry)) (now (sheet .exit)) (now (bindings .exit)) (now (heads .exit)) (now (links .entry)) ⌝ }
-    ensures labels { λ _. ⌜ ListTable (now (rows .entry)) (latestLabel (now (rows .entry)) (now (pairs .entry)) (now (bytes .entry))) (suc (row .0)) (now (labels .exit)) ⌝ }
+    ensures walked { λ r. ⌜ Walked (now (rows .entry)) (now (pairs .entry)) (now (bytes .entry)) (suc (row .0)) r (now (sheet .entry)) (now (bindings .entry)) (now (sheet .exit)) (now (bindings .exit)) (now (heads .exit)) (now («goto_or_label» .entry)) ⌝ }
+    ensures labels { λ _. ⌜ ListTable (now (rows .entry)) (latestLabel (now (rows .entry)) (now (pairs .entry)) (now (bytes .entry))) (suc (row .0)) (now («latest_labels» .exit)) ⌝ }
 {
-    if tables::canon_of(rows, canons, row) == 0 {
+    if tables::canon_of(rows, canonical, row) == 0 {
         return faults;
     }
     let r = row.0;
     let list = wide(lists[r]);
-    let ctx = context::labelled(context_of(latests, labels, list), r + 1);
-    labels[list - 1] = ctx.label as u16;
+    let ctx = context::labelled(context_of(latest_decls, latest_labels, list), r + 1);
+    latest_labels[list - 1] = ctx.label as u16;
     branches::pending::label_branches(
         rows,
         pairs,
         bytes,
-        canons,
-        declareds,
+        canonical,
+        label_rows,
         lists,
         sheet,
         bindings,
         heads,
-        links,
+        goto_or_label,
         row,
         ctx.latest,
         faults,
@@ -210,42 +211,42 @@ fn stmt_branches(
     rows: &[u32],
     pairs: &[u32],
     bytes: &[u8],
-    canons: &[u32],
-    declareds: &[u16],
+    canonical: &[u32],
+    label_rows: &[u16],
     lists: &[u16],
     sheet: &mut [u32],
     bindings: &mut [u32],
     heads: &mut [u16],
-    links: &mut [u16],
-    latests: &mut [u16],
-    labels: &mut [u16],
+    goto_or_label: &mut [u16],
+    latest_decls: &mut [u16],
+    latest_labels: &mut [u16],
     row: RowNumber,
     here: Around,
     faults: usize,
 ) -> Step
-    requires { ⌜ Tables (now rows) (now pairs) (now bytes) (now canons) (now declareds) (now lists) (suc (row .0)) ⌝ }
-    requires { ⌜ Walking (now rows) (now pairs) (now bytes) (row .0) faults (now sheet) (now bindings) (now heads) (now links) ⌝ }
-    requires { ⌜ Contexts (now rows) (now pairs) (now bytes) (row .0) (now latests) (now labels) ⌝ }
+    requires { ⌜ Tables (now rows) (now pairs) (now bytes) (now canonical) (now «label_rows») (now lists) (suc (row .0)) ⌝ }
+    requires { ⌜ Walking (now rows) (now pairs) (now bytes) (row .0) faults (now sheet) (now bindings) (now heads) (now «goto_or_label») ⌝ }
+    requires { ⌜ Contexts (now rows) (now pairs) (now bytes) (row .0) (now «latest_decls») (now «latest_labels») ⌝ }
     requires { ⌜ (row .0 < rowCount (now rows)) × ListAround (now rows) (here .list) (here .end) (row .0) ⌝ }
-    ensures walked { λ r. ⌜ Walked (now (rows .entry)) (now (pairs .entry)) (now (bytes .entry)) (suc (row .0)) (r .faults) (now (sheet .entry)) (now (bindings .entry)) (now (sheet .exit)) (now (bindings .exit)) (now (heads .exit)) (now (links .exit)) ⌝ }
-    ensures contexts { λ _. ⌜ Contexts (now (rows .entry)) (now (pairs .entry)) (now (bytes .entry)) (suc (row .0)) (now (latests .exit)) (now (labels .exit)) ⌝ }
+    ensures walked { λ r. ⌜ Walked (now (rows .entry)) (now (pairs .entry)) (now (bytes .entry)) (suc (row .0)) (r .faults) (now (sheet .entry)) (now (bindings .entry)) (now (sheet .exit)) (now (bindings .exit)) (now (heads .exit)) (now («goto_or_label» .exit)) ⌝ }
+    ensures contexts { λ _. ⌜ Contexts (now (rows .entry)) (now (pairs .entry)) (now (bytes .entry)) (suc (row .0)) (now («latest_decls» .exit)) (now («latest_labels» .exit)) ⌝ }
     ensures around { λ r. ⌜ InHand (now (rows .entry)) (r .list) (r .end) (row .0 + 1) ⌝ }
 {
     match rows::kind(rows, row) {
-        3 => {
+        kinds::LABELED => {
             let more = labeled_branches(
                 rows,
                 pairs,
                 bytes,
-                canons,
-                declareds,
+                canonical,
+                label_rows,
                 lists,
                 sheet,
                 bindings,
                 heads,
-                links,
-                latests,
-                labels,
+                goto_or_label,
+                latest_decls,
+                latest_labels,
                 row,
                 faults,
             );
@@ -255,18 +256,18 @@ fn stmt_branches(
                 end: here.end,
             }
         }
-        11 => {
+        kinds::BRANCH => {
             let more = branches::jumps::jump_branches(
                 rows,
                 pairs,
                 bytes,
-                canons,
-                declareds,
+                canonical,
+                label_rows,
                 lists,
                 sheet,
                 bindings,
                 heads,
-                links,
+                goto_or_label,
                 row,
                 faults,
             );
@@ -277,7 +278,16 @@ fn stmt_branches(
             }
         }
         _ => {
-            plain_branches(rows, pairs, bytes, lists, links, latests, labels, row);
+            plain_branches(
+                rows,
+                pairs,
+                bytes,
+                lists,
+                goto_or_label,
+                latest_decls,
+                latest_labels,
+                row,
+            );
             let after = list_after(rows, here, row.0);
             Step {
                 faults,
@@ -293,20 +303,20 @@ pub fn rows_branches(
     rows: &[u32],
     pairs: &[u32],
     bytes: &[u8],
-    canons: &[u32],
-    declareds: &[u16],
+    canonical: &[u32],
+    label_rows: &[u16],
     lists: &mut [u16],
     sheet: &mut [u32],
     bindings: &mut [u32],
     heads: &mut [u16],
-    links: &mut [u16],
-    latests: &mut [u16],
-    labels: &mut [u16],
+    goto_or_label: &mut [u16],
+    latest_decls: &mut [u16],
+    latest_labels: &mut [u16],
 ) -> usize
-    requires { ⌜ Tables (now rows) (now pairs) (now bytes) (now canons) (now declareds) (now lists) 0 ⌝ }
-    requires { ⌜ Walking (now rows) (now pairs) (now bytes) 0 0 (now sheet) (now bindings) (now heads) (now links) ⌝ }
-    requires { ⌜ Contexts (now rows) (now pairs) (now bytes) 0 (now latests) (now labels) ⌝ }
-    ensures { λ r. ⌜ Walked (now (rows .entry)) (now (pairs .entry)) (now (bytes .entry)) (rowCount (now (rows .entry))) r (now (sheet .entry)) (now (bindings .entry)) (now (sheet .exit)) (now (bindings .exit)) (now (heads .exit)) (now (links .exit)) ⌝ }
+    requires { ⌜ Tables (now rows) (now pairs) (now bytes) (now canonical) (now «label_rows») (now lists) 0 ⌝ }
+    requires { ⌜ Walking (now rows) (now pairs) (now bytes) 0 0 (now sheet) (now bindings) (now heads) (now «goto_or_label») ⌝ }
+    requires { ⌜ Contexts (now rows) (now pairs) (now bytes) 0 (now «latest_decls») (now «latest_labels») ⌝ }
+    ensures { λ r. ⌜ Walked (now (rows .entry)) (now (pairs .entry)) (now (bytes .entry)) (rowCount (now (rows .entry))) r (now (sheet .entry)) (now (bindings .entry)) (now (sheet .exit)) (now (bindings .exit)) (now (heads .exit)) (now («goto_or_label» .exit)) ⌝ }
 {
     let count = rows.len() / 5;
     let mut around = Around {
@@ -322,15 +332,15 @@ pub fn rows_branches(
             rows,
             pairs,
             bytes,
-            canons,
-            declareds,
+            canonical,
+            label_rows,
             lists,
             sheet,
             bindings,
             heads,
-            links,
-            latests,
-            labels,
+            goto_or_label,
+            latest_decls,
+            latest_labels,
             RowNumber(r),
             here,
             faults,

@@ -1,5 +1,6 @@
 // The list of each row: the innermost Block, Case or Comm around it, in one pass.
 use rows::RowNumber;
+use rows::kinds;
 ghost use mathlib.Core.Path.{_≡_};
 ghost use mathlib.Core.Bool.{true};
 ghost use Prim.Native.Nat.{ℕ, _+_, _≤_, _<_};
@@ -27,13 +28,13 @@ fn wide(number: u16) -> usize
 fn holds_items(kind: u32) -> bool
     ensures { λ r. ⌜ ((d : ℕ) → detailAllowed kind d ≡ true → r ≡ holdsItems (classOf kind d)) ⌝ }
 {
-    if kind == 12 {
+    if kind == kinds::BLOCK {
         return true;
     }
-    if kind == 14 {
+    if kind == kinds::CASE {
         return true;
     }
-    kind == 17
+    kind == kinds::COMM
 }
 
 // The first of `list` (1 + its row, or 0 for none) and the rows around it that hold items that

@@ -1,6 +1,7 @@
 // Which rows count for placing: a Branch, and what a break or a continue needs around it. The search
 // passes over the others.
 use rows::RowNumber;
+use rows::kinds;
 ghost use mathlib.Core.Path.{_≡_};
 ghost use mathlib.Core.Bool.{true};
 ghost use Prim.Native.Nat.{ℕ, _≤_};
@@ -13,10 +14,10 @@ ghost use Rattle.placing.specs.Counted.{counted, PassedOver};
 fn counts(kind: u32) -> bool
     ensures { λ r. ⌜ ((d : ℕ) → detailAllowed kind d ≡ true → r ≡ counted (classOf kind d)) ⌝ }
 {
-    if kind == 11 {
+    if kind == kinds::BRANCH {
         return true;
     }
-    rows::kinds::is_breakable(kind)
+    kinds::is_breakable(kind)
 }
 
 // The first row from `from` on, before `end`, that counts.

@@ -6,6 +6,8 @@ use body::Checked;
 use names::Found;
 use refusals::Refusal;
 use rows::RowNumber;
+use rows::details;
+use rows::kinds;
 ghost use mathlib.Core.Path.{_≡_};
 ghost use mathlib.Core.Bool.{true, false};
 ghost use mathlib.Core.Option.{none};
@@ -50,7 +52,7 @@ fn only_empty(rows: &[u32], from: usize, end: usize) -> bool
 {
     let mut k = from;
     while k < end {
-        if rows::kind(rows, RowNumber(k)) != 2 {
+        if rows::kind(rows, RowNumber(k)) != kinds::EMPTY {
             return false;
         }
         k += 1;
@@ -71,7 +73,7 @@ fn ends_case(rows: &[u32], lists: &[u16], row: RowNumber) -> bool
         return false;
     }
     let case = list - 1;
-    if rows::kind(rows, RowNumber(case)) != 14 {
+    if rows::kind(rows, RowNumber(case)) != kinds::CASE {
         return false;
     }
     let case_end = case + rows::size(rows, RowNumber(case));
@@ -102,9 +104,9 @@ fn well_placed(
 {
     let detail = rows::detail(rows, row);
     match detail {
-        0 => row.0 < break_end,
-        1 => row.0 < loop_end,
-        3 => ends_case(rows, lists, row),
+        details::BREAK => row.0 < break_end,
+        details::CONTINUE => row.0 < loop_end,
+        details::FALLTHROUGH => ends_case(rows, lists, row),
         _ => true,
     }
 }
@@ -122,7 +124,7 @@ fn badly_placed(
     requires { ⌜ Reach (now rows) isBreakable (row .0) «break_end» × Reach (now rows) isLoop (row .0) «loop_end» ⌝ }
     ensures { λ r. ⌜ r ≡ badlyPlaced (now (rows .entry)) (row .0) ⌝ }
 {
-    if rows::kind(rows, row) != 11 {
+    if rows::kind(rows, row) != kinds::BRANCH {
         return false;
     }
     let name = rows::name(rows, row);
@@ -149,10 +151,10 @@ fn is_fallthrough(rows: &[u32], row: RowNumber) -> bool
     requires { ⌜ row .0 < rowCount (now rows) ⌝ }
     ensures { λ r. ⌜ (r ≡ false → Falls (now (rows .entry)) (row .0) → ⊥) ⌝ }
 {
-    if rows::kind(rows, row) != 11 {
+    if rows::kind(rows, row) != kinds::BRANCH {
         return false;
     }
-    if rows::detail(rows, row) != 3 {
+    if rows::detail(rows, row) != details::FALLTHROUGH {
         return false;
     }
     rows::name_word(rows, row) == 0
@@ -218,7 +220,7 @@ fn all_labelled(rows: &[u32]) -> bool
     let mut r = 0;
     while r < count {
         let row = RowNumber(r);
-        if rows::kind(rows, row) == 11 {
+        if rows::kind(rows, row) == kinds::BRANCH {
             if rows::name_word(rows, row) == 0 {
                 return false;
             }

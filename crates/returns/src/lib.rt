@@ -5,6 +5,8 @@ use names::Found;
 use names::NameNumber;
 use refusals::Refusal;
 use rows::RowNumber;
+use rows::details;
+use rows::kinds;
 ghost use mathlib.Core.Path.{_≡_};
 ghost use mathlib.Core.Bool.{true, _||_};
 ghost use Prim.Native.Nat.{_<_};
@@ -38,13 +40,13 @@ pub fn is_terminating(
     let first = RowNumber(row.0 + 1);
     let end = row.0 + rows::size(rows, row);
     match kind {
-        3 => is_terminating(rows, pairs, bytes, first, rows::name(rows, row)),
-        4 => rows::detail(rows, row) == 1,
-        10 => true,
-        11 => 2 <= rows::detail(rows, row),
-        12 => is_terminating_list(rows, pairs, bytes, first, end),
-        13 => {
-            if rows::detail(rows, row) == 0 {
+        kinds::LABELED => is_terminating(rows, pairs, bytes, first, rows::name(rows, row)),
+        kinds::EXPR => rows::detail(rows, row) == details::PANIC,
+        kinds::RETURN => true,
+        kinds::BRANCH => details::GOTO <= rows::detail(rows, row),
+        kinds::BLOCK => is_terminating_list(rows, pairs, bytes, first, end),
+        kinds::IF => {
+            if rows::detail(rows, row) == details::WITHOUT_ELSE {
                 return false;
             }
             if !is_terminating(rows, pairs, bytes, first, NameNumber(0)) {
@@ -53,11 +55,11 @@ pub fn is_terminating(
             let els = RowNumber(first.0 + rows::size(rows, first));
             is_terminating(rows, pairs, bytes, els, NameNumber(0))
         }
-        15 => is_terminating_switch(rows, pairs, bytes, row, label, false),
-        16 => is_terminating_switch(rows, pairs, bytes, row, label, false),
-        18 => is_terminating_switch(rows, pairs, bytes, row, label, true),
-        19 => {
-            if rows::detail(rows, row) == 1 {
+        kinds::SWITCH => is_terminating_switch(rows, pairs, bytes, row, label, false),
+        kinds::TYPE_SWITCH => is_terminating_switch(rows, pairs, bytes, row, label, false),
+        kinds::SELECT => is_terminating_switch(rows, pairs, bytes, row, label, true),
+        kinds::FOR => {
+            if rows::detail(rows, row) == details::WITH_CONDITION {
                 return false;
             }
             !has_break_list(rows, pairs, bytes, first, end, label, true)
@@ -89,7 +91,7 @@ fn unless_empty(rows: &[u32], item: RowNumber, found: Found) -> Found
     requires { ⌜ item .0 < rowCount (now rows) ⌝ }
     ensures { λ r. ⌜ UnlessEmpty (now (rows .entry)) (item .0) found r ⌝ }
 {
-    if rows::kind(rows, item) != 2 {
+    if rows::kind(rows, item) != kinds::EMPTY {
         return Found::At(item.0);
     }
     found
@@ -139,7 +141,7 @@ fn is_terminating_switch(
         let clause = RowNumber(c);
         let first = RowNumber(c + 1);
         let next = c + rows::size(rows, clause);
-        if rows::detail(rows, clause) == 1 {
+        if rows::detail(rows, clause) == details::DEFAULT {
             has_default = true;
         }
         if !is_terminating_list(rows, pairs, bytes, first, next) {
@@ -166,7 +168,7 @@ fn is_break(
     requires { ⌜ Body (now rows) (now pairs) (now bytes) × (row .0 < rowCount (now rows)) × (kind (now rows) (row .0) ≡ 11) ⌝ }
     ensures { λ r. ⌜ r ≡ leaves (now (rows .entry)) (now (pairs .entry)) (now (bytes .entry)) (row .0) (label .0) implicit (row .0) ⌝ }
 {
-    if rows::detail(rows, row) != 0 {
+    if rows::detail(rows, row) != details::BREAK {
         return false;
     }
     let name = rows::name(rows, row);
@@ -193,12 +195,12 @@ fn has_break(
     ensures { λ r. ⌜ r ≡ anyLeaves (now (rows .entry)) (now (pairs .entry)) (now (bytes .entry)) (row .0) (end (now (rows .entry)) (row .0)) (label .0) implicit ⌝ }
 {
     let kind = rows::kind(rows, row);
-    if kind == 11 {
+    if kind == kinds::BRANCH {
         return is_break(rows, pairs, bytes, row, label, implicit);
     }
     let first = RowNumber(row.0 + 1);
     let end = row.0 + rows::size(rows, row);
-    if rows::kinds::is_breakable(kind) {
+    if kinds::is_breakable(kind) {
         if label.0 == 0 {
             return false;
         }

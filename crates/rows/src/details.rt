@@ -1,6 +1,27 @@
-// The allowed details of the 21 kinds: one fixed table.
+// The details, and which of them the 21 kinds allow: one fixed table.
 ghost use mathlib.Core.Path.{_≡_};
 ghost use Rattle.rules.specs.Class.{detailAllowed};
+
+// The details of a Branch.
+pub const BREAK: u32 = 0;
+
+pub const CONTINUE: u32 = 1;
+
+pub const GOTO: u32 = 2;
+
+pub const FALLTHROUGH: u32 = 3;
+
+// The details of other kinds: a panic, an If without and with else, a default Case or Comm, a For
+// with a condition.
+pub const PANIC: u32 = 1;
+
+pub const WITHOUT_ELSE: u32 = 0;
+
+pub const WITH_ELSE: u32 = 1;
+
+pub const DEFAULT: u32 = 1;
+
+pub const WITH_CONDITION: u32 = 1;
 
 // How many details each kind allows, from 0 on.
 const DETAILS: [u8; 21] = [

@@ -1,6 +1,8 @@
 // Cause 5, second part: the lowest row whose children, stepped through by size, break its shape.
 use names::Found;
 use rows::RowNumber;
+use rows::details;
+use rows::kinds;
 ghost use mathlib.Core.Path.{_≡_};
 ghost use mathlib.Core.Bool.{true, not};
 ghost use Prim.Native.Nat.{ℕ, suc, _<_};
@@ -41,9 +43,9 @@ fn block_holding(rows: &[u32], row: RowNumber) -> Holding
     }
     let before = rows::kind(rows, RowNumber(row.0 - 1));
     match before {
-        15 => Holding::Cases,
-        16 => Holding::Cases,
-        18 => Holding::Comms,
+        kinds::SWITCH => Holding::Cases,
+        kinds::TYPE_SWITCH => Holding::Cases,
+        kinds::SELECT => Holding::Comms,
         _ => Holding::Statements,
     }
 }
@@ -55,22 +57,22 @@ pub fn holding_at(rows: &[u32], row: RowNumber) -> Holding
 {
     let kind = rows::kind(rows, row);
     match kind {
-        3 => Holding::Statement,
-        12 => block_holding(rows, row),
-        13 => {
-            if rows::detail(rows, row) == 1 {
+        kinds::LABELED => Holding::Statement,
+        kinds::BLOCK => block_holding(rows, row),
+        kinds::IF => {
+            if rows::detail(rows, row) == details::WITH_ELSE {
                 Holding::Branches
             } else {
                 Holding::Body
             }
         }
-        14 => Holding::Statements,
-        15 => Holding::Body,
-        16 => Holding::Body,
-        17 => Holding::Statements,
-        18 => Holding::Body,
-        19 => Holding::Body,
-        20 => Holding::Body,
+        kinds::CASE => Holding::Statements,
+        kinds::SWITCH => Holding::Body,
+        kinds::TYPE_SWITCH => Holding::Body,
+        kinds::COMM => Holding::Statements,
+        kinds::SELECT => Holding::Body,
+        kinds::FOR => Holding::Body,
+        kinds::RANGE => Holding::Body,
         _ => Holding::Nothing,
     }
 }
@@ -79,10 +81,10 @@ pub fn holding_at(rows: &[u32], row: RowNumber) -> Holding
 fn is_statement(kind: u32) -> bool
     ensures { λ r. ⌜ ((d : ℕ) → detailAllowed kind d ≡ true → r ≡ isStatement (classOf kind d)) ⌝ }
 {
-    if kind == 14 {
+    if kind == kinds::CASE {
         return false;
     }
-    kind != 17
+    kind != kinds::COMM
 }
 
 // Whether child number i of a row that holds this may be of this kind.
@@ -92,11 +94,11 @@ pub fn may_hold(holding: Holding, i: usize, kind: u32) -> bool
     match holding {
         Holding::Nothing => false,
         Holding::Statement => { if i == 0 { is_statement(kind) } else { false } }
-        Holding::Body => { if i == 0 { kind == 12 } else { false } }
+        Holding::Body => { if i == 0 { kind == kinds::BLOCK } else { false } }
         Holding::Branches => may_branch(i, kind),
         Holding::Statements => is_statement(kind),
-        Holding::Cases => kind == 14,
-        Holding::Comms => kind == 17,
+        Holding::Cases => kind == kinds::CASE,
+        Holding::Comms => kind == kinds::COMM,
     }
 }
 
@@ -105,13 +107,13 @@ fn may_branch(i: usize, kind: u32) -> bool
     ensures { λ r. ⌜ ((d : ℕ) → detailAllowed kind d ≡ true → r ≡ mayHold branches i (classOf kind d)) ⌝ }
 {
     if i == 0 {
-        return kind == 12;
+        return kind == kinds::BLOCK;
     }
     if i == 1 {
-        if kind == 13 {
+        if kind == kinds::IF {
             return true;
         }
-        return kind == 12;
+        return kind == kinds::BLOCK;
     }
     false
 }
@@ -159,7 +161,7 @@ pub fn is_body(rows: &[u32]) -> bool
     ensures { λ r. ⌜ r ≡ isBody (now (rows .entry)) ⌝ }
 {
     let root = RowNumber(0);
-    if rows::kind(rows, root) != 12 {
+    if rows::kind(rows, root) != kinds::BLOCK {
         return false;
     }
     rows::size(rows, root) == rows.len() / 5

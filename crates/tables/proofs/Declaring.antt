@@ -73,7 +73,7 @@ module _ {w p b : List ℕ} (body : Body w p b) where
     canon-is k e z = numbered-is w p b c r (numbered-label body r row (kind-class w r (body .details r row) k) (omega arith)) e
 
   -- the row's canonical number has a place in the tables
-  pub canon-room : {canons : List ℕ} → CanonTable p b canons → (r : ℕ) → r < rowCount w → name w r < length canons
+  pub canon-room : {canonical : List ℕ} → CanonTable p b canonical → (r : ℕ) → r < rowCount w → name w r < length canonical
   canon-room x r row = omega (arith, x .room, name-within body r row)
 
   pub record Placed (t : List ℕ) (r c : ℕ) : Type 0 where
@@ -82,8 +82,8 @@ module _ {w p b : List ℕ} (body : Body w p b) where
     pub small : c ≤ 500
     pub row-small : r < 2000
 
-  pub placed : {canons t : List ℕ} → CanonTable p b canons → {r : ℕ} → r < rowCount w → Declaring w p b t r → (c : ℕ)
-      → c ≡ getD canons (name w r) 0 → Placed t r c
+  pub placed : {canonical t : List ℕ} → CanonTable p b canonical → {r : ℕ} → r < rowCount w → Declaring w p b t r → (c : ℕ)
+      → c ≡ getD canonical (name w r) 0 → Placed t r c
   placed x {r} row d c e =
       let l = name-within body r row in
       let i : rowCanon w p b r ≡ c = sym (e ∙ x .at-name (name w r) l) in

@@ -31,19 +31,19 @@ unfoldable pub declaredFor : List ℕ → List ℕ → List ℕ → ℕ → Opti
 declaredFor w p b c = lowest (isNumbered w p b c) (rowCount w)
 
 -- each name's canonical number at its number
-pub record CanonTable (p b canons : List ℕ) : Type 0 where
-  pub room : pairCount p < length canons
-  pub at-name : (n : ℕ) → n ≤ pairCount p → getD canons n 0 ≡ canon p b n
+pub record CanonTable (p b canonical : List ℕ) : Type 0 where
+  pub room : pairCount p < length canonical
+  pub at-name : (n : ℕ) → n ≤ pairCount p → getD canonical n 0 ≡ canon p b n
 
 -- the declared label of each canonical number, 1 + its row
-pub record DeclaredTable (w p b declareds : List ℕ) : Type 0 where
-  pub room : pairCount p < length declareds
-  pub at-canon : (c : ℕ) → 0 < c → c ≤ pairCount p → getD declareds c 0 ≡ word (declaredFor w p b c)
+pub record DeclaredTable (w p b label-rows : List ℕ) : Type 0 where
+  pub room : pairCount p < length label-rows
+  pub at-canon : (c : ℕ) → 0 < c → c ≤ pairCount p → getD label-rows c 0 ≡ word (declaredFor w p b c)
 
 -- what the walk reads: a well-formed body and its tables, with the lists of the rows before x
-pub record Tables (w p b : List ℕ) (canons declareds lists : List ℕ) (x : ℕ) : Type 0 where
+pub record Tables (w p b : List ℕ) (canonical label-rows lists : List ℕ) (x : ℕ) : Type 0 where
   pub body : Body w p b
-  pub by-name : CanonTable p b canons
-  pub by-canon : DeclaredTable w p b declareds
+  pub by-name : CanonTable p b canonical
+  pub by-canon : DeclaredTable w p b label-rows
   pub lists-room : rowCount w ≤ length lists
   pub listed : ListedBelow w lists x

@@ -10,10 +10,10 @@ use Rattle.canonical.proofs.number_names.Statement.{statement}
 use Rattle.canonical.proofs.number_names.Tie as tie
 
 abbrev Inv-loop : tie.InvT-loop
-Inv-loop pairs bytes heads₀ nexts₀ keys₀ firsts₀ count n₀ heads nexts keys firsts n = Numbering pairs bytes heads₀ nexts₀ keys₀ firsts₀ heads nexts keys firsts n
+Inv-loop pairs bytes heads₀ next-in-slot₀ keys₀ firsts₀ count n₀ heads next-in-slot keys firsts n = Numbering pairs bytes heads₀ next-in-slot₀ keys₀ firsts₀ heads next-in-slot keys firsts n
 
 abbrev μ-loop : tie.MeasureT-loop
-μ-loop pairs bytes heads₀ nexts₀ keys₀ firsts₀ count n₀ heads nexts keys firsts n = count - n
+μ-loop pairs bytes heads₀ next-in-slot₀ keys₀ firsts₀ count n₀ heads next-in-slot keys firsts n = count - n
 
 loop-holds : tie.Need-loop-holds Inv-loop μ-loop
 loop-holds c =
@@ -63,17 +63,17 @@ mul-keys c = search needs
 slice-write-keys : tie.Need-slice-write-keys Inv-loop μ-loop
 slice-write-keys c = search needs
 
-mul-nexts : tie.Need-mul-nexts Inv-loop μ-loop
-mul-nexts c = search needs
+mul-next-in-slot : tie.Need-mul-next-in-slot Inv-loop μ-loop
+mul-next-in-slot c = search needs
 
-slice-read-nexts : tie.Need-slice-read-nexts Inv-loop μ-loop
-slice-read-nexts c = search needs
+slice-read-next-in-slot : tie.Need-slice-read-next-in-slot Inv-loop μ-loop
+slice-read-next-in-slot c = search needs
 
-mul-nexts-2 : tie.Need-mul-nexts-2 Inv-loop μ-loop
-mul-nexts-2 c = search needs
+mul-next-in-slot-2 : tie.Need-mul-next-in-slot-2 Inv-loop μ-loop
+mul-next-in-slot-2 c = search needs
 
-slice-write-nexts : tie.Need-slice-write-nexts Inv-loop μ-loop
-slice-write-nexts c = search needs
+slice-write-next-in-slot : tie.Need-slice-write-next-in-slot Inv-loop μ-loop
+slice-write-next-in-slot c = search needs
 
 cast-heads : tie.Need-cast-heads Inv-loop μ-loop
 cast-heads c =
@@ -135,10 +135,10 @@ number-names-spec =
     slice-write-firsts
     mul-keys
     slice-write-keys
-    mul-nexts
-    slice-read-nexts
-    mul-nexts-2
-    slice-write-nexts
+    mul-next-in-slot
+    slice-read-next-in-slot
+    mul-next-in-slot-2
+    slice-write-next-in-slot
     cast-heads
     mul-heads
     slice-write-heads

@@ -21,7 +21,7 @@ wide-requires : tie.Need-wide-requires
 wide-requires c κs = search needs
 
 returns : tie.Need-returns
-returns c = c .wide .ensures ∙ ap (λ (n : ℕ). getD (now (c .before .before .before .before .before .args .canons)) n 0) (c .before .before .name .ensures)
+returns c = c .wide .ensures ∙ ap (λ (n : ℕ). getD (now (c .before .before .before .before .before .args .canonical)) n 0) (c .before .before .name .ensures)
 
 pub canon-of-spec : {M : Type 1} → statement M
 canon-of-spec =

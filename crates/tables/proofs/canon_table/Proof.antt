@@ -13,16 +13,16 @@ use Rattle.tables.proofs.canon_table.Statement.{statement}
 use Rattle.tables.proofs.canon_table.Tie as tie
 
 abbrev Inv-loop : tie.InvT-loop
-Inv-loop pairs bytes canons₀ count n₀ canons n = (count ≡ pairCount pairs) × (length canons ≡ length canons₀) × Filling pairs bytes canons n
+Inv-loop pairs bytes canonical₀ count n₀ canonical n = (count ≡ pairCount pairs) × (length canonical ≡ length canonical₀) × Filling pairs bytes canonical n
 
 abbrev μ-loop : tie.MeasureT-loop
-μ-loop pairs bytes canons₀ count n₀ canons n = count + 1 - n
+μ-loop pairs bytes canonical₀ count n₀ canonical n = count + 1 - n
 
 canonical-numbers-requires : tie.Need-canonical-numbers-requires Inv-loop μ-loop
 canonical-numbers-requires c κs = search needs
 
-slice-write-canons : tie.Need-slice-write-canons Inv-loop μ-loop
-slice-write-canons c = search needs
+slice-write-canonical : tie.Need-slice-write-canonical Inv-loop μ-loop
+slice-write-canonical c = search needs
 
 loop-holds : tie.Need-loop-holds Inv-loop μ-loop
 loop-holds c = (refl, refl, filling-start _ _ _ _ (c .before .before .canonical-numbers .ensures) (search needs))
@@ -30,11 +30,11 @@ loop-holds c = (refl, refl, filling-start _ _ _ _ (c .before .before .canonical-
 is-blank-requires : tie.Need-is-blank-requires Inv-loop μ-loop
 is-blank-requires c κs = search needs
 
-mul-canons : tie.Need-mul-canons Inv-loop μ-loop
-mul-canons c = search needs
+mul-canonical : tie.Need-mul-canonical Inv-loop μ-loop
+mul-canonical c = search needs
 
-slice-write-canons-2 : tie.Need-slice-write-canons-2 Inv-loop μ-loop
-slice-write-canons-2 c = search needs
+slice-write-canonical-2 : tie.Need-slice-write-canonical-2 Inv-loop μ-loop
+slice-write-canonical-2 c = search needs
 
 add-n : tie.Need-add-n Inv-loop μ-loop
 add-n c = search needs
@@ -48,7 +48,7 @@ loop-again c =
     let i = l .inv in
     let h = c .before .before .loop-test .taken in
     ⊎-elim
-    (λ a. (i .0, rw (a .1) (length-set (l .canons) (l .n) _ ∙ i .1), rw (a .1) (filling-blank _ _ _ _ (i .2) h (sym (c .before .is-blank .ensures) ∙ a .0 .taken))))
+    (λ a. (i .0, rw (a .1) (length-set (l .canonical) (l .n) _ ∙ i .1), rw (a .1) (filling-blank _ _ _ _ (i .2) h (sym (c .before .is-blank .ensures) ∙ a .0 .taken))))
     (λ a. (i .0, rw (a .1) (i .1), rw (a .1) (filling-kept _ _ _ _ (i .2) h (sym (c .before .is-blank .ensures) ∙ a .0 .left))))
     (c .if1 .came)
 
@@ -65,11 +65,11 @@ canon-table-spec =
     Inv-loop
     μ-loop
     canonical-numbers-requires
-    slice-write-canons
+    slice-write-canonical
     loop-holds
     is-blank-requires
-    mul-canons
-    slice-write-canons-2
+    mul-canonical
+    slice-write-canonical-2
     add-n
     loop-less
     loop-again

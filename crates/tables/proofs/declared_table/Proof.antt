@@ -13,11 +13,11 @@ use Rattle.tables.proofs.declared_table.Statement.{statement}
 use Rattle.tables.proofs.declared_table.Tie as tie
 
 abbrev Inv-loop : tie.InvT-loop
-Inv-loop rows pairs bytes canons declareds₀ count r₀ declareds r =
-    (count ≡ rowCount rows) × (length declareds ≡ length declareds₀) × Declaring rows pairs bytes declareds r
+Inv-loop rows pairs bytes canonical label-rows₀ count r₀ label-rows r =
+    (count ≡ rowCount rows) × (length label-rows ≡ length label-rows₀) × Declaring rows pairs bytes label-rows r
 
 abbrev μ-loop : tie.MeasureT-loop
-μ-loop rows pairs bytes canons declareds₀ count r₀ declareds r = count - r
+μ-loop rows pairs bytes canonical label-rows₀ count r₀ label-rows r = count - r
 
 loop-holds : tie.Need-loop-holds Inv-loop μ-loop
 loop-holds c =
@@ -36,7 +36,7 @@ canon-of-requires c κs =
 -- the row's canonical number has a place, and both numbers are small
 at-place : (c : tie.After-canon-of Inv-loop μ-loop) →
     Placed (c .before .before .before .before .before .before .before .before .before .before .pre .0 .0)
-    (c .before .before .before .before .loop .declareds) (c .before .before .before .before .loop .r) (c .canon-of .result)
+    (c .before .before .before .before .loop .label-rows) (c .before .before .before .before .loop .r) (c .canon-of .result)
 at-place c =
     let s = c .before .before .before .before .before .before .before .before .before .before in
     let l = c .before .before .before in
@@ -50,20 +50,20 @@ slice-read-if3 : tie.Need-slice-read-if3 Inv-loop μ-loop
 slice-read-if3 c =
     at-place (c .before .before) .place
 
-add-declareds : tie.Need-add-declareds Inv-loop μ-loop
-add-declareds c =
+add-label-rows : tie.Need-add-label-rows Inv-loop μ-loop
+add-label-rows c =
     omega (arith, at-place (c .before .before .before))
 
-cast-declareds : tie.Need-cast-declareds Inv-loop μ-loop
-cast-declareds c =
+cast-label-rows : tie.Need-cast-label-rows Inv-loop μ-loop
+cast-label-rows c =
     omega (arith, at-place (c .before .before .before))
 
-mul-declareds : tie.Need-mul-declareds Inv-loop μ-loop
-mul-declareds c =
+mul-label-rows : tie.Need-mul-label-rows Inv-loop μ-loop
+mul-label-rows c =
     omega (arith, at-place (c .before .before .before))
 
-slice-write-declareds : tie.Need-slice-write-declareds Inv-loop μ-loop
-slice-write-declareds c =
+slice-write-label-rows : tie.Need-slice-write-label-rows Inv-loop μ-loop
+slice-write-label-rows c =
     omega (arith, at-place (c .before .before .before))
 
 add-r : tie.Need-add-r Inv-loop μ-loop
@@ -83,7 +83,7 @@ loop-again c =
     ⊎-elim
     (λ a. (
       i .0,
-      rw (a .5) (length-set (l .declareds) _ _ ∙ i .1),
+      rw (a .5) (length-set (l .label-rows) _ _ ∙ i .1),
       rw (a .5) (declaring-first (s .pre .0 .0) _ _ (i .2) h _ (q _ (a .1 .ensures)) (sym k ∙ a .0 .taken) (a .2 .taken) (a .4 .taken)),
     ))
     (⊎-elim
@@ -111,10 +111,10 @@ declared-table-spec =
     canon-of-requires
     mul-if3
     slice-read-if3
-    add-declareds
-    cast-declareds
-    mul-declareds
-    slice-write-declareds
+    add-label-rows
+    cast-label-rows
+    mul-label-rows
+    slice-write-label-rows
     add-r
     loop-less
     loop-again

@@ -13,7 +13,7 @@ use Rattle.branches.proofs.jumps.break_branches.Tie as tie
 valid-target-requires : tie.Need-valid-target-requires
 valid-target-requires c κs =
     let s = c .before .before .before .before .before .before .before .before .before .before in
-    (s .pre .0, (s .pre .1 .0 .block-links, (s .pre .1 .1 .0, s .pre .1 .1 .1)))
+    (s .pre .0, (s .pre .1 .0 .block-labels, (s .pre .1 .1 .0, s .pre .1 .1 .1)))
 
 canon-of-requires : tie.Need-canon-of-requires
 canon-of-requires c κs =

@@ -36,8 +36,8 @@ canon-of-requires c κs =
     let s = c .before .before .before .before .before .before .before .before .before .before .before .before in
     (s .pre .1 .1 .0, canon-place (s .pre .0) _ (s .pre .1 .1 .0))
 
-mul-links : tie.Need-mul-links
-mul-links c =
+mul-goto-or-label : tie.Need-mul-goto-or-label
+mul-goto-or-label c =
     omega (
       arith,
       goto-place (c .before .before .before .before .before .before .before .before .before .before .before .before .before .before .pre .0)
@@ -49,19 +49,19 @@ mul-links c =
           (c .before .canon-of .ensures),
     )
 
-slice-read-links : tie.Need-slice-read-links
-slice-read-links c =
+slice-read-goto-or-label : tie.Need-slice-read-goto-or-label
+slice-read-goto-or-label c =
     let s = c .before .before .before .before .before .before .before .before .before .before .before .before .before .before .before in
     let goto-target = c .before .before .before .before .goto-target in
     let if1 = c .before .before .before .if1 in
     let canon-of = c .before .before .canon-of in
     goto-place (s .pre .0) _ _ _ _ _ _ (s .pre .1 .1 .0) (s .pre .1 .0) (s .pre .1 .1 .1) _ (goto-target .ensures) (if1 .left) _ (canon-of .ensures)
 
-mul-links-2 : tie.Need-mul-links-2
-mul-links-2 c = search needs
+mul-goto-or-label-2 : tie.Need-mul-goto-or-label-2
+mul-goto-or-label-2 c = search needs
 
-slice-write-links : tie.Need-slice-write-links
-slice-write-links c = search needs
+slice-write-goto-or-label : tie.Need-slice-write-goto-or-label
+slice-write-goto-or-label c = search needs
 
 add-heads : tie.Need-add-heads
 add-heads c = search needs
@@ -124,10 +124,10 @@ goto-branches-spec =
     same-length
     returns
     canon-of-requires
-    mul-links
-    slice-read-links
-    mul-links-2
-    slice-write-links
+    mul-goto-or-label
+    slice-read-goto-or-label
+    mul-goto-or-label-2
+    slice-write-goto-or-label
     add-heads
     cast-heads
     mul-heads

@@ -57,8 +57,8 @@ slice-read-wide c =
 wide-requires-3 : tie.Need-wide-requires-3
 wide-requires-3 c κs = search needs
 
-jumps-over-var-decl-requires : tie.Need-jumps-over-var-decl-requires
-jumps-over-var-decl-requires c κs =
+count-jumps-over-requires : tie.Need-count-jumps-over-requires
+count-jumps-over-requires c κs =
     let at-list = c .before .before in
     let at-canon = at-list .before .before .before .before .before .before .before .before .before .before .before in
     let s = at-canon .before .before .before .before .before .before .before .before .before .before .before in
@@ -74,7 +74,7 @@ add-end c =
     let s = at-canon .before .before .before .before .before .before .before .before .before .before .before in
     let own = declare-leaves (s .pre) (at-canon .canon-of .ensures) (at-declared .wide .ensures) (at-mine .declare .ensures) in
     let chain = the-chain (s .pre) (at-canon .canon-of .ensures) (at-list .wide2 .ensures) (at-head .wide3 .ensures) in
-    let fits = end-fits (s .pre) (at-canon .canon-of .ensures) (at-list .wide2 .ensures) (at-head .wide3 .ensures) own (c .jumps-over-var-decl .ensures _ _ chain) in
+    let fits = end-fits (s .pre) (at-canon .canon-of .ensures) (at-list .wide2 .ensures) (at-head .wide3 .ensures) own (c .count-jumps-over .ensures _ _ chain) in
     omega (arith, fits, at-mine .declare .kept, s .good)
 
 resolve-requires : tie.Need-resolve-requires
@@ -88,7 +88,7 @@ resolve-requires c κs =
     let s = at-canon .before .before .before .before .before .before .before .before .before .before .before in
     let own = declare-leaves (s .pre) (at-canon .canon-of .ensures) (at-declared .wide .ensures) (at-mine .declare .ensures) in
     let chain = the-chain (s .pre) (at-canon .canon-of .ensures) (at-list .wide2 .ensures) (at-head .wide3 .ensures) in
-    resolve-asks (s .pre) (at-canon .canon-of .ensures) (at-list .wide2 .ensures) (at-head .wide3 .ensures) own (at-over .jumps-over-var-decl .ensures _ _ chain)
+    resolve-asks (s .pre) (at-canon .canon-of .ensures) (at-list .wide2 .ensures) (at-head .wide3 .ensures) own (at-over .count-jumps-over .ensures _ _ chain)
 
 cast-heads : tie.Need-cast-heads
 cast-heads c =
@@ -136,7 +136,7 @@ returns c =
     let own = declare-leaves (s .pre) (at-canon .canon-of .ensures) (at-declared .wide .ensures) (at-mine .declare .ensures) in
     let chain = the-chain (s .pre) (at-canon .canon-of .ensures) (at-list .wide2 .ensures) (at-head .wide3 .ensures) in
     label-walked (s .pre) (at-canon .canon-of .ensures) (at-list .wide2 .ensures) (at-head .wide3 .ensures)
-    own (at-over .jumps-over-var-decl .ensures _ _ chain) (at-done .resolve .ensures _ _ chain)
+    own (at-over .count-jumps-over .ensures _ _ chain) (at-done .resolve .ensures _ _ chain)
 
 pub label-branches-spec : {M : Type 1} → statement M
 label-branches-spec =
@@ -153,7 +153,7 @@ label-branches-spec =
     mul-wide-3
     slice-read-wide
     wide-requires-3
-    jumps-over-var-decl-requires
+    count-jumps-over-requires
     add-end
     resolve-requires
     cast-heads

@@ -13,11 +13,11 @@ use Rattle.branches.proofs.pending.resolve.Statement.{statement}
 use Rattle.branches.proofs.pending.resolve.Tie as tie
 
 abbrev Inv-loop : tie.InvT-loop
-Inv-loop rows sheet₀ bindings₀ links head row list latest end at₀ g₀ sheet bindings at g =
-    (all : List ℕ) (last : ℕ) → Chain links list head all last → Resolves rows sheet₀ bindings₀ links sheet bindings head list latest end (row .0 + 1) at g all last
+Inv-loop rows sheet₀ bindings₀ goto-or-label head row list latest end at₀ g₀ sheet bindings at g =
+    (all : List ℕ) (last : ℕ) → Chain goto-or-label list head all last → Resolves rows sheet₀ bindings₀ goto-or-label sheet bindings head list latest end (row .0 + 1) at g all last
 
 abbrev μ-loop : tie.MeasureT-loop
-μ-loop rows sheet₀ bindings₀ links head row list latest end at₀ g₀ sheet bindings at g = g
+μ-loop rows sheet₀ bindings₀ goto-or-label head row list latest end at₀ g₀ sheet bindings at g = g
 
 loop-holds : tie.Need-loop-holds Inv-loop μ-loop
 loop-holds c = λ all last h. resolve-begins h

@@ -20,11 +20,11 @@ use Rattle.label.proofs.rest.put_unused.Statement.{statement}
 use Rattle.label.proofs.rest.put_unused.Tie as tie
 
 abbrev Inv-loop : tie.InvT-loop
-Inv-loop rows pairs bytes declareds names sheet₀ faults at₀ j₀ sheet at j =
+Inv-loop rows pairs bytes label-rows names sheet₀ faults at₀ j₀ sheet at j =
     Nines rows pairs bytes names j at sheet₀ sheet
 
 abbrev μ-loop : tie.MeasureT-loop
-μ-loop rows pairs bytes declareds names sheet₀ faults at₀ j₀ sheet at j =
+μ-loop rows pairs bytes label-rows names sheet₀ faults at₀ j₀ sheet at j =
     length names - j
 
 loop-holds : tie.Need-loop-holds Inv-loop μ-loop
@@ -52,7 +52,7 @@ wide-requires-2 c κs = search needs
 
 -- what is known of the name once the word of its label is read
 at-name : (c : tie.After-wide2 Inv-loop μ-loop) → let a = c .before .before .before .before .before .before .before .before .before .before .before .before .args in
-    AtName (a .rows .now) (a .pairs .now) (a .bytes .now) (a .declareds .now) (a .names .now) (a .sheet .now)
+    AtName (a .rows .now) (a .pairs .now) (a .bytes .now) (a .label-rows .now) (a .names .now) (a .sheet .now)
     (c .before .before .before .before .before .loop .sheet) (c .before .before .before .before .before .loop .j) (c .before .before .before .before .before .loop .at) (c .before .before .wide .result) (c .wide2 .result)
 at-name c =
     let p = c .before .before .before .before .before .before .before .before .before .before .before .before .pre in

@@ -14,11 +14,11 @@ use Rattle.label.proofs.rest.unresolved.Statement.{statement}
 use Rattle.label.proofs.rest.unresolved.Tie as tie
 
 abbrev Inv-loop : tie.InvT-loop
-Inv-loop rows pairs bytes canons declareds sheet₀ bindings used₀ faults count at₀ r₀ sheet used at r =
+Inv-loop rows pairs bytes canonical label-rows sheet₀ bindings used₀ faults count at₀ r₀ sheet used at r =
     (r ≤ rowCount rows) × LeftOver rows pairs bytes r at sheet₀ sheet used × (length used ≡ length used₀)
 
 abbrev μ-loop : tie.MeasureT-loop
-μ-loop rows pairs bytes canons declareds sheet₀ bindings used₀ faults count at₀ r₀ sheet used at r =
+μ-loop rows pairs bytes canonical label-rows sheet₀ bindings used₀ faults count at₀ r₀ sheet used at r =
     rowCount rows - r
 
 loop-holds : tie.Need-loop-holds Inv-loop μ-loop

@@ -30,7 +30,7 @@ canon-of-requires c κs =
 
 -- what is known of the branch once its canonical number is read
 branch : (c : tie.After-canon-of) → let a = c .before .before .before .before .before .before .before .before .args in
-    AtBranch (a .rows .now) (a .pairs .now) (a .bytes .now) (a .canons .now) (a .declareds .now) (a .sheet .now) (a .used .now)
+    AtBranch (a .rows .now) (a .pairs .now) (a .bytes .now) (a .canonical .now) (a .label-rows .now) (a .sheet .now) (a .used .now)
     (a .row .0) (a .faults) (c .canon-of .result) (a .bound)
 branch c =
     let p = c .before .before .before .before .before .before .before .before .pre in

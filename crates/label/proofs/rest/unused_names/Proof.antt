@@ -11,11 +11,11 @@ use Rattle.label.proofs.rest.unused_names.Statement.{statement}
 use Rattle.label.proofs.rest.unused_names.Tie as tie
 
 abbrev Inv-loop : tie.InvT-loop
-Inv-loop rows pairs bytes declareds used names₀ count n₀ c₀ names n c =
+Inv-loop rows pairs bytes label-rows used names₀ count n₀ c₀ names n c =
     Collected rows pairs bytes c n names₀ names
 
 abbrev μ-loop : tie.MeasureT-loop
-μ-loop rows pairs bytes declareds used names₀ count n₀ c₀ names n c =
+μ-loop rows pairs bytes label-rows used names₀ count n₀ c₀ names n c =
     pairCount pairs + 1 - c
 
 loop-holds : tie.Need-loop-holds Inv-loop μ-loop

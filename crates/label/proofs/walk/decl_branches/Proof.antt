@@ -27,26 +27,26 @@ add-declared c = search needs
 declared-requires : tie.Need-declared-requires
 declared-requires c κs = search needs
 
-cast-latests : tie.Need-cast-latests
-cast-latests c =
+cast-latest-decls : tie.Need-cast-latest-decls
+cast-latest-decls c =
     let s = c .before .before .before .before .before .before .before .before .before .before .before .before in
     let i = s .pre .1 .1 in
     omega (arith, declared-fits (s .pre .0) (i .0) (s .pre .1 .0) (i .1) _ (c .before .before .before .before .wide .ensures) (c .before .before .context-of .result) _ (c .before .declared .ensures))
 
-sub-latests : tie.Need-sub-latests
-sub-latests c =
+sub-latest-decls : tie.Need-sub-latest-decls
+sub-latest-decls c =
     let s = c .before .before .before .before .before .before .before .before .before .before .before .before in
     let i = s .pre .1 .1 in
     omega (arith, declared-list (s .pre .0) (i .0) (s .pre .1 .0) (i .1) _ (c .before .before .before .before .wide .ensures) .0)
 
-mul-latests : tie.Need-mul-latests
-mul-latests c =
+mul-latest-decls : tie.Need-mul-latest-decls
+mul-latest-decls c =
     let s = c .before .before .before .before .before .before .before .before .before .before .before .before in
     let i = s .pre .1 .1 in
     omega (arith, declared-list (s .pre .0) (i .0) (s .pre .1 .0) (i .1) _ (c .before .before .before .before .wide .ensures) .1)
 
-slice-write-latests : tie.Need-slice-write-latests
-slice-write-latests c =
+slice-write-latest-decls : tie.Need-slice-write-latest-decls
+slice-write-latest-decls c =
     let s = c .before .before .before .before .before .before .before .before .before .before .before .before in
     let i = s .pre .1 .1 in
     let l = declared-list (s .pre .0) (i .0) (s .pre .1 .0) (i .1) _ (c .before .before .before .before .wide .ensures) in
@@ -71,9 +71,9 @@ decl-branches-spec =
     context-of-requires
     add-declared
     declared-requires
-    cast-latests
-    sub-latests
-    mul-latests
-    slice-write-latests
+    cast-latest-decls
+    sub-latest-decls
+    mul-latest-decls
+    slice-write-latest-decls
     same-length
     returns)

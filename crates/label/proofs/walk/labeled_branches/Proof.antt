@@ -47,26 +47,26 @@ add-labelled c =
 labelled-requires : tie.Need-labelled-requires
 labelled-requires c κs = search needs
 
-cast-labels : tie.Need-cast-labels
-cast-labels c =
+cast-latest-labels : tie.Need-cast-latest-labels
+cast-latest-labels c =
     let s = c .before .before .before .before .before .before .before .before .before .before .before .before .before .before .before .before .before .before .before .before in
     let i = s .pre .1 .1 in
     omega (arith, labelled-fits (s .pre .0) (i .1 .0) (i .1 .1) (i .0) _ (c .before .before .before .before .before .before .before .canon-of .ensures) (c .before .before .before .before .before .before .if1 .left) _ (c .before .before .before .before .wide .ensures) (c .before .before .context-of .result) _ (c .before .labelled .ensures))
 
-sub-labels : tie.Need-sub-labels
-sub-labels c =
+sub-latest-labels : tie.Need-sub-latest-labels
+sub-latest-labels c =
     let s = c .before .before .before .before .before .before .before .before .before .before .before .before .before .before .before .before .before .before .before .before in
     let i = s .pre .1 .1 in
     omega (arith, label-list (s .pre .0) (i .1 .0) (i .1 .1) (i .0) _ (c .before .before .before .before .before .before .before .canon-of .ensures) (c .before .before .before .before .before .before .if1 .left) _ (c .before .before .before .before .wide .ensures) .0)
 
-mul-labels : tie.Need-mul-labels
-mul-labels c =
+mul-latest-labels : tie.Need-mul-latest-labels
+mul-latest-labels c =
     let s = c .before .before .before .before .before .before .before .before .before .before .before .before .before .before .before .before .before .before .before .before in
     let i = s .pre .1 .1 in
     omega (arith, label-list (s .pre .0) (i .1 .0) (i .1 .1) (i .0) _ (c .before .before .before .before .before .before .before .canon-of .ensures) (c .before .before .before .before .before .before .if1 .left) _ (c .before .before .before .before .wide .ensures) .1)
 
-slice-write-labels : tie.Need-slice-write-labels
-slice-write-labels c =
+slice-write-latest-labels : tie.Need-slice-write-latest-labels
+slice-write-latest-labels c =
     let s = c .before .before .before .before .before .before .before .before .before .before .before .before .before .before .before .before .before .before .before .before in
     let i = s .pre .1 .1 in
     let l = label-list (s .pre .0) (i .1 .0) (i .1 .1) (i .0) _ (c .before .before .before .before .before .before .before .canon-of .ensures) (c .before .before .before .before .before .before .if1 .left) _ (c .before .before .before .before .wide .ensures) in
@@ -108,10 +108,10 @@ labeled-branches-spec =
     context-of-requires
     add-labelled
     labelled-requires
-    cast-labels
-    sub-labels
-    mul-labels
-    slice-write-labels
+    cast-latest-labels
+    sub-latest-labels
+    mul-latest-labels
+    slice-write-latest-labels
     label-branches-requires
     same-length
     same-length-2

@@ -32,10 +32,10 @@ returns-2 c =
     let s = c .before .before .before .before .before .before .before .before .before .before .before .before in
     undeclared-gives (s .pre .0) _ (s .pre .1 .1 .0) (s .pre .1 .0) _ (c .before .before .before .before .kind .ensures) _ (c .before .before .before .detail .ensures) (c .before .before .if1 .taken) (c .before .may-declare .ensures) (c .if2 .left)
 
-block-branches-requires : tie.Need-block-branches-requires
-block-branches-requires c κs =
+set-block-label-requires : tie.Need-set-block-label-requires
+set-block-label-requires c κs =
     let s = c .before .before .before .before .before .before .before .before .before .before .before .before in
-    block-asks (s .pre .0) _ (s .pre .1 .1 .0) (s .pre .1 .0) _ (c .before .before .before .before .kind .ensures) _ (c .before .before .before .detail .ensures) (s .args .links .now) (s .pre .1 .1 .1) (c .before .if3 .taken)
+    block-asks (s .pre .0) _ (s .pre .1 .1 .0) (s .pre .1 .0) _ (c .before .before .before .before .kind .ensures) _ (c .before .before .before .detail .ensures) (s .args .goto-or-label .now) (s .pre .1 .1 .1) (c .before .if3 .taken)
 
 same-length-2 : tie.Need-same-length-2
 same-length-2 c = search needs
@@ -43,7 +43,7 @@ same-length-2 c = search needs
 returns-3 : tie.Need-returns-3
 returns-3 c =
     let s = c .before .before .before .before .before .before .before .before .before .before .before .before .before .before .before in
-    block-gives (s .pre .0) _ (s .pre .1 .1 .0) (s .pre .1 .0) _ (c .before .before .before .before .before .before .before .kind .ensures) _ (c .before .before .before .before .before .before .detail .ensures) (c .before .before .before .before .before .if1 .left) (c .before .before .before .before .if3 .taken) (c .before .before .block-branches .ensures)
+    block-gives (s .pre .0) _ (s .pre .1 .1 .0) (s .pre .1 .0) _ (c .before .before .before .before .before .before .before .kind .ensures) _ (c .before .before .before .before .before .before .detail .ensures) (c .before .before .before .before .before .if1 .left) (c .before .before .before .before .if3 .taken) (c .before .before .set-block-label .ensures)
 
 returns-4 : tie.Need-returns-4
 returns-4 c =
@@ -61,7 +61,7 @@ plain-branches-spec =
     same-length
     returns
     returns-2
-    block-branches-requires
+    set-block-label-requires
     same-length-2
     returns-3
     returns-4)

@@ -13,12 +13,12 @@ use Rattle.label.proofs.walk.rows_branches.Statement.{statement}
 use Rattle.label.proofs.walk.rows_branches.Tie as tie
 
 abbrev Inv-loop : tie.InvT-loop
-Inv-loop rows pairs bytes canons declareds lists₀ sheet₀ bindings₀ heads₀ links₀ latests₀ labels₀ count around₀ faults₀ r₀ lists sheet bindings heads links latests labels around faults r =
-    Turn rows pairs bytes r faults sheet₀ bindings₀ heads₀ links₀ latests₀ labels₀ sheet bindings heads links latests labels
+Inv-loop rows pairs bytes canonical label-rows lists₀ sheet₀ bindings₀ heads₀ goto-or-label₀ latest-decls₀ latest-labels₀ count around₀ faults₀ r₀ lists sheet bindings heads goto-or-label latest-decls latest-labels around faults r =
+    Turn rows pairs bytes r faults sheet₀ bindings₀ heads₀ goto-or-label₀ latest-decls₀ latest-labels₀ sheet bindings heads goto-or-label latest-decls latest-labels
     × (length lists ≡ length lists₀) × InHand rows (around .list) (around .end) r × ListedBelow rows lists r
 
 abbrev μ-loop : tie.MeasureT-loop
-μ-loop rows pairs bytes canons declareds lists₀ sheet₀ bindings₀ heads₀ links₀ latests₀ labels₀ count around₀ faults₀ r₀ lists sheet bindings heads links latests labels around faults r =
+μ-loop rows pairs bytes canonical label-rows lists₀ sheet₀ bindings₀ heads₀ goto-or-label₀ latest-decls₀ latest-labels₀ count around₀ faults₀ r₀ lists sheet bindings heads goto-or-label latest-decls latest-labels around faults r =
     rowCount rows - r
 
 loop-holds : tie.Need-loop-holds Inv-loop μ-loop
@@ -62,7 +62,7 @@ loop-again c =
     let i = l .inv in
     let y = c .before .before .before .before .before .before .before .before .before .before .before .before .stmt-branches .ensures in
     let n = lists-next (s .args .rows .now) (l .lists) (s .args .lists .now) (l .r) _ (i .1) (s .pre .0 .lists-room) (c .before .before .before .before .before .before .before .before .before .before .before .before .before .before .before .before .before .before .before .before .before .before .before .loop-test .taken) (c .before .before .before .before .before .before .before .before .before .before .before .before .before .before .before .before .before .before .before .before .before .list-at .ensures .0) (i .3) in
-    (turn-next (i .0) (y .0) (y .1 .0) (c .before .before .before .before .before .before .before .heads .given) (c .before .before .before .before .before .links .given) (c .before .before .before .latests .given) (c .before .labels .given), n .0, y .1 .1, n .1)
+    (turn-next (i .0) (y .0) (y .1 .0) (c .before .before .before .before .before .before .before .heads .given) (c .before .before .before .before .before .goto-or-label .given) (c .before .before .before .latest-decls .given) (c .before .latest-labels .given), n .0, y .1 .1, n .1)
 
 same-length : tie.Need-same-length Inv-loop μ-loop
 same-length c = c .before .loop .inv .1
@@ -77,13 +77,13 @@ same-length-4 : tie.Need-same-length-4 Inv-loop μ-loop
 same-length-4 c = c .before .loop .inv .0 .heads-length
 
 same-length-5 : tie.Need-same-length-5 Inv-loop μ-loop
-same-length-5 c = c .before .loop .inv .0 .links-length
+same-length-5 c = c .before .loop .inv .0 .goto-or-label-length
 
 same-length-6 : tie.Need-same-length-6 Inv-loop μ-loop
-same-length-6 c = c .before .loop .inv .0 .latests-length
+same-length-6 c = c .before .loop .inv .0 .latest-decls-length
 
 same-length-7 : tie.Need-same-length-7 Inv-loop μ-loop
-same-length-7 c = c .before .loop .inv .0 .labels-length
+same-length-7 c = c .before .loop .inv .0 .latest-labels-length
 
 returns : tie.Need-returns Inv-loop μ-loop
 returns c = turn-last (c .before .loop .inv .0) (c .loop-test .left)

@@ -30,7 +30,7 @@ same-length-5 : tie.Need-same-length-5
 same-length-5 c = refl
 
 same-length-6 : tie.Need-same-length-6
-same-length-6 c = c .before .labels .given
+same-length-6 c = c .before .latest-labels .given
 
 returns : tie.Need-returns
 returns c =
@@ -55,7 +55,7 @@ same-length-9 : tie.Need-same-length-9
 same-length-9 c = c .before .before .before .heads2 .given
 
 same-length-10 : tie.Need-same-length-10
-same-length-10 c = c .before .links .given
+same-length-10 c = c .before .goto-or-label .given
 
 returns-2 : tie.Need-returns-2
 returns-2 c =
@@ -77,10 +77,10 @@ list-after-requires c κs =
     ((b .sized, b .details, s .pre .1 .1 .1 .0, b .most-rows), s .pre .1 .1 .1 .1)
 
 same-length-11 : tie.Need-same-length-11
-same-length-11 c = c .before .before .before .before .links2 .given
+same-length-11 c = c .before .before .before .before .goto-or-label2 .given
 
 same-length-12 : tie.Need-same-length-12
-same-length-12 c = c .before .before .latests .given
+same-length-12 c = c .before .before .latest-decls .given
 
 same-length-13 : tie.Need-same-length-13
 same-length-13 c = refl

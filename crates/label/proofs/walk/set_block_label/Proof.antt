@@ -5,8 +5,8 @@ use Prim.Native.Nat.{ℕ}
 use native.Mathlib.Omega.{arith}
 use lib.ListN.{set}
 use borrow.Author.Needs.{needs}
-use Rattle.label.proofs.walk.block_branches.Statement.{statement}
-use Rattle.label.proofs.walk.block_branches.Tie as tie
+use Rattle.label.proofs.walk.set_block_label.Statement.{statement}
+use Rattle.label.proofs.walk.set_block_label.Tie as tie
 
 current-label-requires : tie.Need-current-label-requires
 current-label-requires c κs =
@@ -14,13 +14,13 @@ current-label-requires c κs =
     let i = s .pre .1 .1 in
     (s .pre .0, (s .pre .1 .0, (i .0, i .1)))
 
-mul-links : tie.Need-mul-links
-mul-links c =
+mul-goto-or-label : tie.Need-mul-goto-or-label
+mul-goto-or-label c =
     let s = c .before .before .before .before .before .before .before in
     omega (arith, s .pre .1 .1 .0, s .pre .0 .body .most-rows)
 
-slice-write-links : tie.Need-slice-write-links
-slice-write-links c = search needs
+slice-write-goto-or-label : tie.Need-slice-write-goto-or-label
+slice-write-goto-or-label c = search needs
 
 same-length : tie.Need-same-length
 same-length c = search needs
@@ -28,8 +28,8 @@ same-length c = search needs
 returns : tie.Need-returns
 returns c =
     let s = c .before .before .before .before .before .before .before in
-    ap (λ (v : ℕ). set (s .args .links .now) (s .args .row .0) v) (c .current-label .ensures)
+    ap (λ (v : ℕ). set (s .args .goto-or-label .now) (s .args .row .0) v) (c .current-label .ensures)
 
-pub block-branches-spec : {M : Type 1} → statement M
-block-branches-spec =
-    tie.close (tie.spec current-label-requires mul-links slice-write-links same-length returns)
+pub set-block-label-spec : {M : Type 1} → statement M
+set-block-label-spec =
+    tie.close (tie.spec current-label-requires mul-goto-or-label slice-write-goto-or-label same-length returns)

@@ -7,15 +7,15 @@ use native.Mathlib.Omega.{arith}
 use borrow.Author.Needs.{needs}
 use Rattle.branches.specs.Chain.{Chain}
 use Rattle.branches.proofs.Chained.{Counted, at-counting, count-begins, count-few, count-lower, count-yes, count-no, count-ends}
-use Rattle.branches.proofs.pending.jumps_over_var_decl.Statement.{statement}
-use Rattle.branches.proofs.pending.jumps_over_var_decl.Tie as tie
+use Rattle.branches.proofs.pending.count_jumps_over.Statement.{statement}
+use Rattle.branches.proofs.pending.count_jumps_over.Tie as tie
 
 abbrev Inv-loop : tie.InvT-loop
-Inv-loop links head list latest over₀ g₀ over g =
-    (all : List ℕ) (last : ℕ) → Chain links list head all last → Counted links head list latest over g all last
+Inv-loop goto-or-label head list latest over₀ g₀ over g =
+    (all : List ℕ) (last : ℕ) → Chain goto-or-label list head all last → Counted goto-or-label head list latest over g all last
 
 abbrev μ-loop : tie.MeasureT-loop
-μ-loop links head list latest over₀ g₀ over g = g
+μ-loop goto-or-label head list latest over₀ g₀ over g = g
 
 loop-holds : tie.Need-loop-holds Inv-loop μ-loop
 loop-holds c = λ all last h. count-begins h
@@ -58,8 +58,8 @@ loop-again c = λ all last h.
 returns : tie.Need-returns Inv-loop μ-loop
 returns c = λ all last h. count-ends (c .before .loop .inv all last h) (omega (arith, c .loop-test .left))
 
-pub jumps-over-var-decl-spec : {M : Type 1} → statement M
-jumps-over-var-decl-spec =
+pub count-jumps-over-spec : {M : Type 1} → statement M
+count-jumps-over-spec =
     tie.close
     (tie.spec
     Inv-loop
