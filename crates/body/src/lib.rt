@@ -1,22 +1,15 @@
 // Refusals 1 to 6 of the lent records, and with them whether a body is well-formed.
 pub mod depth;
-pub mod plain;
-pub mod walk;
 
 use names::Found;
 use refusals::Refusal;
 use rows::RowNumber;
-use rows::details;
-use rows::kinds;
+use rows_fit::row_allowed;
+use rows_fit::walk::well_formed_rows;
 ghost use mathlib.Core.Path.{_≡_};
-ghost use mathlib.Core.Bool.{true, false, not};
-ghost use mathlib.Core.List.{List};
-ghost use Prim.Native.Nat.{ℕ, _<_};
 ghost use Rattle.rules.specs.Scan.{lowest};
 ghost use Rattle.rules.specs.Rows.{rowCount};
-ghost use Rattle.rules.specs.Class.{classOf, detailAllowed};
-ghost use Rattle.rules.specs.Names.{pairCount};
-ghost use Rattle.rules.specs.Refusals.{badRowWords, nameAllowed, badRow, badSize, refusal};
+ghost use Rattle.rules.specs.Refusals.{badRowWords, badRow, badSize, refusal};
 ghost use Rattle.names.specs.Place.{place};
 ghost use Rattle.body.specs.Given.{given};
 
@@ -37,44 +30,6 @@ fn bad_row_words(rows: &[u32]) -> bool
         return true;
     }
     2000 < rows.len() / 5
-}
-
-// Whether a row of this kind and detail may have this name: Labeled and goto must have one, other
-// Branches may, the rest have none.
-fn name_allowed(kind: u32, detail: u32, pair_count: usize, name: usize) -> bool
-    requires { ⌜ detailAllowed kind detail ≡ true ⌝ }
-    ensures { λ r. ⌜ r ≡ nameAllowed (classOf kind detail) «pair_count» name ⌝ }
-{
-    if pair_count < name {
-        return false;
-    }
-    if kind == kinds::LABELED {
-        return name != 0;
-    }
-    if kind == kinds::BRANCH {
-        if detail == details::GOTO {
-            return name != 0;
-        }
-        return true;
-    }
-    name == 0
-}
-
-// Whether the row's kind, detail, position and name are allowed, where there are so many pairs.
-pub fn row_allowed(rows: &[u32], pair_count: usize, row: RowNumber) -> bool
-    requires { ⌜ row .0 < rowCount (now rows) ⌝ }
-    ensures { λ r. ⌜ ((p : List ℕ) → pairCount p ≡ «pair_count» → r ≡ not (badRow (now (rows .entry)) p (row .0))) ⌝ }
-{
-    let kind = rows::kind(rows, row);
-    let detail = rows::detail(rows, row);
-    if !details::detail_allowed(kind, detail) {
-        return false;
-    }
-    if rows::position(rows, row) == 0 {
-        return false;
-    }
-    let name = rows::name(rows, row);
-    name_allowed(kind, detail, pair_count, name.0)
 }
 
 // Cause 4.
@@ -125,7 +80,7 @@ pub fn refusal_of(rows: &[u32], pairs: &[u32], bytes: &[u8]) -> Checked
     if let Found::At(i) = names::first_bad_pair(pairs, bytes) {
         return Checked::Refused(Refusal::Pair(i));
     }
-    if walk::well_formed_rows(rows, pairs) {
+    if well_formed_rows(rows, pairs) {
         return Checked::WellFormed;
     }
     if let Found::At(r) = first_bad_row(rows, pairs) {

@@ -21,8 +21,8 @@ use Rattle.rules.proofs.Found.{found-is}
 use Rattle.rules.proofs.RowNames.{same-own}
 use Rattle.rules.proofs.LabelRows.{labels-is, some-declared}
 use Rattle.rules.proofs.SheetRows.{repeated-not, repeated-is, report-label}
-use Rattle.branches.specs.Walk.{faultsAt}
-use Rattle.branches.proofs.WalkFaults.{faults-suc}
+use Rattle.walk_state.specs.Walk.{faultsAt}
+use Rattle.walk_state.proofs.WalkFaults.{faults-suc}
 use Rattle.goscript.specs.Syntax.{through, contains, ident, lookup}
 use Rattle.goscript.specs.Context.{Context}
 use Rattle.goscript.specs.Checker.{Checker}

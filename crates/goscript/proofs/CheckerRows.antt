@@ -25,9 +25,9 @@ use Rattle.rules.proofs.GotoRows.{is-earlier}
 use Rattle.rules.proofs.BreakRows.{is-valid, labelled-is, not-labelled, other-labelled}
 use Rattle.rules.proofs.BindingRows.{branch-label, binding-break, binding-invalid, binding-other}
 use Rattle.rules.proofs.SheetRows.{report-valid, report-break, report-continue, report-fallthrough, report-other}
-use Rattle.branches.specs.Walk.{bindingAt}
-use Rattle.branches.proofs.WalkFaults.{faults-suc}
-use Rattle.branches.proofs.WalkBindings.{at-goto, at-later, at-other, not-later, later-own, binding-same}
+use Rattle.walk_state.specs.Walk.{bindingAt}
+use Rattle.walk_state.proofs.WalkFaults.{faults-suc}
+use Rattle.walk_state.proofs.WalkBindings.{at-goto, at-later, at-other, not-later, later-own, binding-same}
 use Rattle.goscript.specs.Syntax.{ident, lookup}
 use Rattle.goscript.specs.Checker.{Checker, error, label-set-used, record-use}
 use Rattle.goscript.specs.Label.{State, recordLabelUse}

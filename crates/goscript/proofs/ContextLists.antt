@@ -19,10 +19,10 @@ use Rattle.rules.proofs.Around.{innermost-last}
 use Rattle.rules.proofs.Lists.{statement-list}
 use Rattle.rules.proofs.LabelRows.{is-labels}
 use Rattle.rules.proofs.GotoRows.{in-list, isLater, later-parts, later-none, none-later, is-pending}
-use Rattle.branches.specs.Walk.{latestIn}
-use Rattle.branches.proofs.WalkPending.{pending-other}
+use Rattle.walk_state.specs.Walk.{latestIn}
+use Rattle.walk_state.proofs.WalkPending.{pending-other}
 use Rattle.tables.proofs.Labelling.{label-class}
-use Rattle.branches.proofs.Downward.{highest-cut}
+use Rattle.pending.proofs.Downward.{highest-cut}
 use Rattle.goscript.specs.Context.{Context, with-jumps}
 use Rattle.goscript.proofs.Passing.{passing-split}
 use Rattle.goscript.proofs.Walking.{jumpsAt, ContextAt}

@@ -25,9 +25,9 @@ use Rattle.rules.proofs.Around.{innermost-found}
 use Rattle.rules.proofs.LabelRows.{other-label, is-labels, labels-is}
 use Rattle.rules.proofs.RowNames.{same-sym}
 use Rattle.rules.proofs.GotoRows.{list-some, isLater, later-parts, parts-later, later-none, none-later, pending-is, is-pending}
-use Rattle.branches.specs.Walk.{latestIn}
-use Rattle.branches.proofs.WalkPending.{pending-same, pending-found, pending-other, pending-own}
-use Rattle.branches.proofs.WalkBindings.{not-later}
+use Rattle.walk_state.specs.Walk.{latestIn}
+use Rattle.walk_state.proofs.WalkPending.{pending-same, pending-found, pending-other, pending-own}
+use Rattle.walk_state.proofs.WalkBindings.{not-later}
 use Rattle.tables.proofs.Labelling.{label-class}
 use Rattle.goscript.specs.Syntax.{filter, contains, ident}
 use Rattle.goscript.specs.Context.{Context, new, record-var-decl, with-jumps, with-lstmt}

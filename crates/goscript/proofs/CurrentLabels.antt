@@ -18,8 +18,8 @@ use Rattle.rules.proofs.Test.{case-of, case-found, clash}
 use Rattle.rules.proofs.Scan.{found-highest}
 use Rattle.rules.proofs.Around.{around-true, true-around}
 use Rattle.rules.proofs.LabelRows.{labels-is, is-labels, other-label}
-use Rattle.branches.proofs.Downward.{highest-cut}
-use Rattle.branches.proofs.BlockLabels.{is-last, last-is}
+use Rattle.pending.proofs.Downward.{highest-cut}
+use Rattle.jumps.proofs.BlockLabels.{is-last, last-is}
 use Rattle.goscript.specs.Syntax.{ident}
 use Rattle.goscript.specs.Block.{Block, new, search, named, enclosing-target}
 use Rattle.goscript.specs.Domains.{noneNamesEnded}

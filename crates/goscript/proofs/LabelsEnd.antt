@@ -37,7 +37,7 @@ use Rattle.rules.proofs.BreakRows.{not-labelled}
 use Rattle.rules.proofs.BindingRows.{binding-declared, binding-repeated, binding-other}
 use Rattle.rules.proofs.RankRows.{label-at}
 use Rattle.rules.proofs.SheetRows.{unused-none, unused-not, unused-is}
-use Rattle.branches.specs.Walk.{faultsAt}
+use Rattle.walk_state.specs.Walk.{faultsAt}
 use Rattle.tables.proofs.Labelling.{label-class}
 use Rattle.goscript.specs.Build.{Build}
 use Rattle.goscript.specs.Syntax.{through, contains, list}

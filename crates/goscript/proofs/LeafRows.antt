@@ -23,7 +23,7 @@ use Rattle.rules.proofs.BreakRows.{valid-found, valid-none, labelled-is}
 use Rattle.rules.proofs.ClassRules.{by-one, class-rule}
 use Rattle.rules.proofs.BindingRows.{branch-label}
 use Rattle.rules.proofs.LabelRows.{other-label}
-use Rattle.branches.proofs.WalkPending.{pending-other, pending-earlier}
+use Rattle.walk_state.proofs.WalkPending.{pending-other, pending-earlier}
 use Rattle.goscript.specs.Build.{original, Build}
 use Rattle.goscript.specs.Syntax.{ident}
 use Rattle.goscript.specs.Block.{goto-target, enclosing-target}

@@ -24,7 +24,7 @@ use Rattle.rules.proofs.LabelRows.{is-declared}
 use Rattle.rules.proofs.GotoRows.{is-pending}
 use Rattle.rules.proofs.BindingRows.{branch-label, binding-goto}
 use Rattle.rules.proofs.SheetRows.{unresolved-not, unresolved-declared, unresolved-none, uses, uses-binding, uses-pending, uses-cases, used-is, is-used}
-use Rattle.branches.specs.Walk.{bindingAt}
+use Rattle.walk_state.specs.Walk.{bindingAt}
 use Rattle.goscript.specs.Syntax.{through, contains, ident, lookup}
 use Rattle.goscript.specs.Checker.{Checker, error, label-set-used}
 use Rattle.goscript.specs.Label.{leftJump}

@@ -23,7 +23,7 @@ use Rattle.rules.proofs.Nesting.{ends-before}
 use Rattle.rules.proofs.Around.{around-true, Innermost}
 use Rattle.rules.proofs.Lists.{found-innermost}
 use Rattle.rules.proofs.LabelRows.{is-labels, other-label}
-use Rattle.branches.proofs.Downward.{highest-cut}
+use Rattle.pending.proofs.Downward.{highest-cut}
 use Rattle.goscript.proofs.Walking.{targetBefore}
 
 pub record Stacked (w : List ℕ) (l i x : ℕ) : Type 0 where

@@ -25,9 +25,9 @@ use Rattle.rules.proofs.RowNames.{same-sym}
 use Rattle.rules.proofs.LabelRows.{labels-is, is-labels}
 use Rattle.rules.proofs.GotoRows.{in-list, isLater, later-parts, parts-later, is-pending, resolved}
 use Rattle.rules.proofs.SheetRows.{isOver, is-over, jumps-none, jumps-some}
-use Rattle.branches.specs.Walk.{bindingAt, latestIn}
+use Rattle.walk_state.specs.Walk.{bindingAt, latestIn}
 use Rattle.tables.proofs.Labelling.{label-class}
-use Rattle.branches.proofs.WalkBindings.{at-goto, at-later, at-other, later-found, later-kept, binding-same}
+use Rattle.walk_state.proofs.WalkBindings.{at-goto, at-later, at-other, later-found, later-kept, binding-same}
 use Rattle.goscript.specs.Context.{Context}
 use Rattle.goscript.specs.Label.{varDecl}
 use Rattle.goscript.proofs.SameNames.{same-ident}

@@ -12,7 +12,7 @@ use lib.Dec.{ltb, eqb}
 use borrow.Author.Tests.{lt-ltb, le-ltb, eqb-true, eq-eqb, ne-eqb}
 use Rattle.rules.specs.Class.{isBranch, class}
 use Rattle.rules.proofs.Test.{case-of, or-true}
-use Rattle.branches.specs.Walk.{bindingAt}
+use Rattle.walk_state.specs.Walk.{bindingAt}
 use Rattle.goscript.specs.Syntax.{any, contains}
 use Rattle.goscript.specs.Checker.{Use, usedBy}
 use Rattle.goscript.proofs.Walking.{useAt}

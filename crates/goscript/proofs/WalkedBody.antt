@@ -12,7 +12,7 @@ use Rattle.rules.specs.Class.{class}
 use Rattle.rules.specs.Body.{Body}
 use Rattle.rules.proofs.Test.{clash}
 use Rattle.rules.proofs.LabelRows.{other-label}
-use Rattle.branches.proofs.WalkFaults.{faults-zero}
+use Rattle.walk_state.proofs.WalkFaults.{faults-zero}
 use Rattle.goscript.specs.Build.{Build}
 use Rattle.goscript.specs.Syntax.{any, contains, list}
 use Rattle.goscript.specs.Checker.{new, usedBy}

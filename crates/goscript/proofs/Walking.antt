@@ -13,7 +13,7 @@ use Rattle.rules.specs.Class.{isBranch, class}
 use Rattle.rules.specs.Names.{pairCount}
 use Rattle.rules.specs.Scope.{around, inListOf}
 use Rattle.rules.specs.Labels.{each, only, is, isLabel, labels, declared, declaredAt, pending, lastInRun, labelledBreak}
-use Rattle.branches.specs.Walk.{faultsAt, bindingAt, latestIn}
+use Rattle.walk_state.specs.Walk.{faultsAt, bindingAt, latestIn}
 use Rattle.goscript.specs.Syntax.{contains, ident}
 use Rattle.goscript.specs.Block.{Block, new as newBlock, goto-target, enclosing-target}
 use Rattle.goscript.specs.Context.{Context, jumps-over-var-decl}

@@ -24,17 +24,16 @@ use Rattle.rules.proofs.ClassTests.{one-is}
 use Rattle.rules.proofs.Every.{is-one}
 use Rattle.canonical.proofs.Zeros.{zeros-at}
 use Rattle.tables.specs.Canon.{CanonTable, DeclaredTable, Tables}
-use Rattle.branches.specs.Walk.{Walking, Walked, faultsAt, bindingAt, previousPending}
-use Rattle.branches.proofs.WalkFaults.{faults-zero, words-length}
-use Rattle.branches.proofs.WalkBindings.{each-length, each-at, bindings-zero, are-bindings, word-before, at-other}
-use Rattle.branches.proofs.WalkPending.{waits}
-use Rattle.label.specs.Rest.{Reported, AtEnd, faultsLeft}
-use Rattle.label.specs.Contexts.{Contexts}
+use Rattle.walk_state.specs.Walk.{Walking, Walked, faultsAt, bindingAt, previousPending}
+use Rattle.walk_state.proofs.WalkFaults.{faults-zero, words-length, drop-further}
+use Rattle.walk_state.proofs.WalkBindings.{each-length, each-at, bindings-zero, are-bindings, word-before, at-other}
+use Rattle.walk_state.proofs.WalkPending.{waits}
+use Rattle.label_rest.specs.Rest.{Reported, AtEnd, faultsLeft}
+use Rattle.label_walk.specs.Contexts.{Contexts}
 use Rattle.label.specs.Answered.{NoName, Cleared, Blank, Lent, Answered}
-use Rattle.label.proofs.ContextRows.{contexts-start}
-use Rattle.label.proofs.LeftRows.{branch-word, pair-most}
-use Rattle.label.proofs.LeftTurns.{drop-further}
-use Rattle.label.proofs.UnusedRows.{ninesTo, nines-sheet}
+use Rattle.label_walk.proofs.ContextRows.{contexts-start}
+use Rattle.label_rest.proofs.LeftRows.{branch-word, pair-most}
+use Rattle.label_rest.proofs.UnusedRows.{ninesTo, nines-sheet}
 use Rattle.label.proofs.NamelessRows.{nameless-sheet, nameless-binding}
 
 -- ---- words that are 0

@@ -1,16 +1,2 @@
-pub mod RowWords
-pub mod ListRows
-pub mod CurrentLabel
-pub mod ContextRows
-pub mod TableSteps
-pub mod WalkSteps
-pub mod PlainRows
-pub mod RowSteps
-pub mod LeftRows
-pub mod LeftTurns
-pub mod UnusedNames
-pub mod UnusedRanks
-pub mod SortedNames
-pub mod UnusedRows
 pub mod CallRows
 pub mod NamelessRows

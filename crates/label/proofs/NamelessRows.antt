@@ -15,7 +15,7 @@ use Rattle.rules.proofs.LabelRows.{other-label}
 use Rattle.rules.proofs.BreakRows.{not-labelled}
 use Rattle.rules.proofs.BindingRows.{binding-other}
 use Rattle.rules.proofs.SheetRows.{report-other, unresolved-not, unused-none, none-declared-at, none-sheet}
-use Rattle.branches.proofs.WalkPending.{pending-other}
+use Rattle.walk_state.proofs.WalkPending.{pending-other}
 use Rattle.label.specs.Answered.{NoName}
 
 -- without names in the table no row has one

@@ -7,7 +7,7 @@ use lib.ListN.{length, getD, take, drop}
 use Rattle.rules.specs.Rows.{rowCount, name}
 use Rattle.rules.specs.Names.{pairCount}
 use Rattle.rules.specs.Labels.{sheet as sheetOf, bindings as bindingsOf}
-use Rattle.label.specs.Rest.{Reported}
+use Rattle.label_rest.specs.Rest.{Reported}
 
 -- no row has a name
 abbrev pub NoName : List ℕ → Type 0

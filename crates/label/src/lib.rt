@@ -3,9 +3,6 @@
 // The walk is goscript's, over the rows in order; what goscript hands down as context stands in two
 // tables by the list's row. A name is its canonical number, 0 for none and for `_`. A row is written
 // as 1 + its number where 0 stands for none.
-pub mod rest;
-pub mod walk;
-
 use body::Checked;
 use refusals::Refusal;
 use rows::RowNumber;
@@ -77,7 +74,7 @@ fn walk_body(
 {
     tables::canon_table(pairs, bytes, canonical);
     tables::declared_table(rows, pairs, bytes, canonical, label_rows);
-    let walked = walk::rows_branches(
+    let walked = label_walk::rows_branches(
         rows,
         pairs,
         bytes,
@@ -91,7 +88,7 @@ fn walk_body(
         latest_decls,
         latest_labels,
     );
-    let more = rest::unresolved(
+    let more = label_rest::unresolved(
         rows,
         pairs,
         bytes,
@@ -102,7 +99,7 @@ fn walk_body(
         used,
         walked,
     );
-    rest::unused(
+    label_rest::unused(
         rows,
         pairs,
         bytes,

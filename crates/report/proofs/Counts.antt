@@ -14,7 +14,7 @@ use Rattle.rules.specs.Names.{badNameWords}
 use Rattle.rules.specs.Refusals.{badRowWords}
 use Rattle.rules.proofs.Causes.{refused-at, bad-1, good-1, bad-2}
 use Rattle.rules.proofs.Test.{case-of, clash, or-false}
-use Rattle.branches.proofs.WalkBindings.{each-length}
+use Rattle.walk_state.proofs.WalkBindings.{each-length}
 use Rattle.bodyfile.specs.File.{word, words, rows, names, bytes, rowWords, pairWords, nameBytes}
 use Rattle.report.specs.Text.{refusedText, bodyText}
 use Rattle.report.specs.Limits.{said, countRefusal, Within}

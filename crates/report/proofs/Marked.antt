@@ -17,8 +17,8 @@ use Rattle.rules.specs.Verdict.{verdict}
 use Rattle.rules.specs.Calls.{Answer, refused, answered, faultWords, tooShort, labelCall, placingCall, verdictCall}
 use Rattle.rules.proofs.Lent.{room as has-room}
 use Rattle.rules.proofs.Test.{clash}
-use Rattle.branches.proofs.WalkFaults.{words-length}
-use Rattle.branches.proofs.WalkBindings.{each-length}
+use Rattle.walk_state.proofs.WalkFaults.{words-length}
+use Rattle.walk_state.proofs.WalkBindings.{each-length}
 use Rattle.marking.specs.Marks.{marksCall}
 use Rattle.report.specs.Text.{refusedText, sheetText, bindsText, placedText, verdictText, bodyText}
 use Rattle.report.specs.Lines.{sheetLines}

@@ -1,0 +1,4 @@
+pub mod BlockLabels
+pub mod ListClimb
+pub mod BranchRows
+pub mod BranchSteps

@@ -1,0 +1,118 @@
+-- Each arm is one law of RowSteps.antt: what its call asks, and what the row leaves. A label and a branch hold no items, so the list in hand stays.
+-- Assumes nothing.
+use mathlib.Core.Path.{refl}
+use mathlib.Core.Logic.{inl, inr}
+use Rattle.label_walk.proofs.RowSteps.{labeled-asks, labeled-gives, branch-asks, branch-gives, passes, plain-asks, plain-gives}
+use Rattle.label_walk.proofs.stmt_branches.Statement.{statement}
+use Rattle.label_walk.proofs.stmt_branches.Tie as tie
+
+kind-requires : tie.Need-kind-requires
+kind-requires c κs = c .before .before .before .before .before .before .before .before .before .before .before .before .pre .1 .1 .1 .0
+
+labeled-branches-requires : tie.Need-labeled-branches-requires
+labeled-branches-requires c κs =
+    let s = c .before .before .before .before .before .before .before .before .before .before .before .before .before .before .before .before .before .before .before .before in
+    labeled-asks (s .pre .0) _ (s .pre .1 .1 .1 .0) (s .pre .1 .0) (s .pre .1 .1 .0) _ (c .before .before .before .before .before .before .before .kind .ensures) (c .before .before .before .before .before .before .match .keys1)
+
+same-length : tie.Need-same-length
+same-length c = c .before .before .before .before .before .before .before .sheet .given
+
+same-length-2 : tie.Need-same-length-2
+same-length-2 c = c .before .before .before .before .before .bindings .given
+
+same-length-3 : tie.Need-same-length-3
+same-length-3 c = c .before .before .before .heads .given
+
+same-length-4 : tie.Need-same-length-4
+same-length-4 c = refl
+
+same-length-5 : tie.Need-same-length-5
+same-length-5 c = refl
+
+same-length-6 : tie.Need-same-length-6
+same-length-6 c = c .before .latest-labels .given
+
+returns : tie.Need-returns
+returns c =
+    let s = c .before .before .before .before .before .before .before .before .before .before .before .before .before .before .before .before .before .before .before .before .before .before .before .before .before .before .before .before .before in
+    let k = c .before .before .before .before .before .before .before .before .before .before .before .before .before .before .before .match .keys1 in
+    let e = c .before .before .before .before .before .before .before .before .before .before .before .before .before .before .before .before .kind .ensures in
+    let g = labeled-gives (s .pre .0) _ (s .pre .1 .1 .1 .0) (s .pre .1 .0) (s .pre .1 .1 .0) _ e k (c .before .before .before .before .before .before .before .before .labeled-branches .ensures) in
+    (g .0, (g .1, passes (s .pre .0) _ (s .pre .1 .1 .1 .0) (s .pre .1 .0) (s .pre .1 .1 .0) _ e (inl k) (s .pre .1 .1 .1 .1)))
+
+jump-branches-requires : tie.Need-jump-branches-requires
+jump-branches-requires c κs =
+    let s = c .before .before .before .before .before .before .before .before .before .before .before .before .before .before .before .before .before .before in
+    branch-asks (s .pre .0) _ (s .pre .1 .1 .1 .0) (s .pre .1 .0) (s .pre .1 .1 .0) _ (c .before .before .before .before .before .kind .ensures) (c .before .before .before .before .match .keys2)
+
+same-length-7 : tie.Need-same-length-7
+same-length-7 c = c .before .before .before .before .before .before .before .sheet2 .given
+
+same-length-8 : tie.Need-same-length-8
+same-length-8 c = c .before .before .before .before .before .bindings2 .given
+
+same-length-9 : tie.Need-same-length-9
+same-length-9 c = c .before .before .before .heads2 .given
+
+same-length-10 : tie.Need-same-length-10
+same-length-10 c = c .before .goto-or-label .given
+
+returns-2 : tie.Need-returns-2
+returns-2 c =
+    let s = c .before .before .before .before .before .before .before .before .before .before .before .before .before .before .before .before .before .before .before .before .before .before .before .before .before .before .before in
+    let k = c .before .before .before .before .before .before .before .before .before .before .before .before .before .match .keys2 in
+    let e = c .before .before .before .before .before .before .before .before .before .before .before .before .before .before .kind .ensures in
+    let g = branch-gives (s .pre .0) _ (s .pre .1 .1 .1 .0) (s .pre .1 .0) (s .pre .1 .1 .0) _ e k (c .before .before .before .before .before .before .before .before .jump-branches .ensures) in
+    (g .0, (g .1, passes (s .pre .0) _ (s .pre .1 .1 .1 .0) (s .pre .1 .0) (s .pre .1 .1 .0) _ e (inr k) (s .pre .1 .1 .1 .1)))
+
+plain-branches-requires : tie.Need-plain-branches-requires
+plain-branches-requires c κs =
+    let s = c .before .before .before .before .before .before .before .before .before .before .before .before .before .before .before .before .before in
+    plain-asks (s .pre .0) _ (s .pre .1 .1 .1 .0) (s .pre .1 .0) (s .pre .1 .1 .0) _ (c .before .before .before .before .kind .ensures)
+
+list-after-requires : tie.Need-list-after-requires
+list-after-requires c κs =
+    let s = c .before .before .before .before .before .before .before .before .before .before .before .before .before .before .before .before .before .before .before .before .before .before in
+    let b = s .pre .0 .body in
+    ((b .sized, b .details, s .pre .1 .1 .1 .0, b .most-rows), s .pre .1 .1 .1 .1)
+
+same-length-11 : tie.Need-same-length-11
+same-length-11 c = c .before .before .before .before .goto-or-label2 .given
+
+same-length-12 : tie.Need-same-length-12
+same-length-12 c = c .before .before .latest-decls .given
+
+same-length-13 : tie.Need-same-length-13
+same-length-13 c = refl
+
+returns-3 : tie.Need-returns-3
+returns-3 c =
+    let s = c .before .before .before .before .before .before .before .before .before .before .before .before .before .before .before .before .before .before .before .before .before .before .before in
+    let g = plain-gives (s .pre .0) _ (s .pre .1 .1 .1 .0) (s .pre .1 .0) (s .pre .1 .1 .0) _ (c .before .before .before .before .before .before .before .before .before .before .kind .ensures) (c .before .before .before .before .before .before .before .before .before .match .rest) (c .before .before .before .before .before .plain-branches .ensures) in
+    (g .0, (g .1, c .list-after .ensures))
+
+pub stmt-branches-spec : {M : Type 1} → statement M
+stmt-branches-spec =
+    tie.close
+    (tie.spec
+    kind-requires
+    labeled-branches-requires
+    jump-branches-requires
+    plain-branches-requires
+    list-after-requires
+    same-length
+    same-length-2
+    same-length-3
+    same-length-4
+    same-length-5
+    same-length-6
+    returns
+    same-length-7
+    same-length-8
+    same-length-9
+    same-length-10
+    returns-2
+    same-length-11
+    same-length-12
+    same-length-13
+    returns-3)

@@ -1,0 +1,4 @@
+pub mod Chained
+pub mod Downward
+pub mod LabelRow
+pub mod LabelStep
