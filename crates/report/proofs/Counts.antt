@@ -16,7 +16,8 @@ use Rattle.rules.proofs.Causes.{refused-at, bad-1, good-1, bad-2}
 use Rattle.rules.proofs.Test.{case-of, clash, or-false}
 use Rattle.walk_state.proofs.WalkBindings.{each-length}
 use Rattle.bodyfile.specs.File.{word, words, rows, names, bytes, rowWords, pairWords, nameBytes}
-use Rattle.report.specs.Text.{refusedText, bodyText}
+use Rattle.report_lines.specs.Text.{refusedText}
+use Rattle.report.specs.Text.{bodyText}
 use Rattle.report.specs.Limits.{said, countRefusal, Within}
 use Rattle.report.proofs.Marked.{text-refused}
 

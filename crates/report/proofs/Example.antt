@@ -7,7 +7,8 @@ use Prim.Native.Nat.{ℕ}
 use native.Mathlib.Omega.{arith}
 use Rattle.rules.proofs.Computed.{computed}
 use Rattle.bodyfile.specs.File.{words, badFile}
-use Rattle.report.specs.Text.{decimal, sheetText, bindsText, bodyText, marksText}
+use Rattle.report_lines.specs.Text.{decimal, sheetText, bindsText}
+use Rattle.report.specs.Text.{bodyText, marksText}
 use Rattle.report.specs.Limits.{badStart, countRefusal, startText}
 use Rattle.report.proofs.Files.{of-whole}
 

@@ -13,7 +13,8 @@ use lib.Seq.{getD-take, take-all}
 use borrow.Author.Tests.{ltb-false, eqb-true, lt-ltb, le-ltb, eq-eqb, ne-eqb, not-false}
 use Rattle.rules.proofs.Test.{case-of, or-false}
 use Rattle.bodyfile.specs.File.{word, rows, names, bytes, rowWords, pairWords, nameBytes, badFile}
-use Rattle.report.specs.Text.{refusedText, bodyText, marksText}
+use Rattle.report_lines.specs.Text.{refusedText}
+use Rattle.report.specs.Text.{bodyText, marksText}
 use Rattle.report.specs.Limits.{said, badStart, countRefusal, startText}
 use Rattle.report.proofs.Counts.{within, counts-refused}
 

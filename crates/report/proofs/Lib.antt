@@ -1,7 +1,3 @@
-pub mod Decimals
-pub mod Writing
-pub mod Parts
-pub mod SheetLines
 pub mod Marked
 pub mod Counts
 pub mod Files

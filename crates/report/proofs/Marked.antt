@@ -20,9 +20,10 @@ use Rattle.rules.proofs.Test.{clash}
 use Rattle.walk_state.proofs.WalkFaults.{words-length}
 use Rattle.walk_state.proofs.WalkBindings.{each-length}
 use Rattle.marking.specs.Marks.{marksCall}
-use Rattle.report.specs.Text.{refusedText, sheetText, bindsText, placedText, verdictText, bodyText}
-use Rattle.report.specs.Lines.{sheetLines}
-use Rattle.report.proofs.SheetLines.{sheet-lines}
+use Rattle.report_lines.specs.Text.{refusedText, sheetText, bindsText, placedText, verdictText}
+use Rattle.report.specs.Text.{bodyText}
+use Rattle.report_lines.specs.Lines.{sheetLines}
+use Rattle.report_lines.proofs.SheetLines.{sheet-lines}
 
 -- an answer's parts
 abbrev Marks : Type 0

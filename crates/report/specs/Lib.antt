@@ -1,4 +1,2 @@
 pub mod Text
-pub mod Wrote
-pub mod Lines
 pub mod Limits

@@ -6,7 +6,8 @@ use Prim.Native.Nat.{ℕ, zero, suc, _+_, _*_, _≤_, _<_}
 use lib.Dec.{ltb, eqb}
 use lib.ListN.{length}
 use Rattle.bodyfile.specs.File.{rows, names, bytes, rowWords, pairWords, nameBytes}
-use Rattle.report.specs.Text.{refusedText, bodyText}
+use Rattle.report_lines.specs.Text.{refusedText}
+use Rattle.report.specs.Text.{bodyText}
 
 -- the length that the header says
 abbrev pub said : List ℕ → ℕ

@@ -1,7 +1,4 @@
 // What the program `marks` prints for the file of a body, as bytes.
-pub mod lines;
-pub mod text;
-
 use marking::Marking;
 use marking::Marks;
 ghost use mathlib.Core.Path.{_≡_};
@@ -11,8 +8,9 @@ ghost use lib.ListN.{length as lengthOf, take};
 ghost use Rattle.io.specs.Counts.{Counts};
 ghost use Rattle.bodyfile.specs.File.{rowWords, pairWords, nameBytes};
 ghost use Rattle.names.specs.Place.{place};
-ghost use Rattle.report.specs.Text.{bindsText, placedText, verdictText, bodyText};
-ghost use Rattle.report.specs.Lines.{sheetLines};
+ghost use Rattle.report_lines.specs.Text.{bindsText, placedText, verdictText};
+ghost use Rattle.report.specs.Text.{bodyText};
+ghost use Rattle.report_lines.specs.Lines.{sheetLines};
 ghost use Rattle.report.specs.Limits.{said, badStart, countRefusal, Within, startText};
 
 // The longest file of a body that isn't refused for its counts: 2,000 rows, 500 names, 8,000 bytes.
@@ -29,10 +27,10 @@ fn marked_text(sheet: &[u32], bindings: &[u32], marks: Marks, out: &mut [u8]) ->
     ensures counts { λ r. ⌜ Counts r (now (out .exit)) ⌝ }
 {
     let placed = marks.placed;
-    let sheet_end = lines::sheet_text(sheet, marks.faults, out, 0);
-    let binds_end = lines::binds_text(bindings, out, sheet_end);
-    let placed_end = lines::placed_text(placed, out, binds_end);
-    lines::verdict_text(marks.terminating, out, placed_end)
+    let sheet_end = report_lines::sheet_text(sheet, marks.faults, out, 0);
+    let binds_end = report_lines::binds_text(bindings, out, sheet_end);
+    let placed_end = report_lines::placed_text(placed, out, binds_end);
+    report_lines::verdict_text(marks.terminating, out, placed_end)
 }
 
 // The output for a body whose words are lent.
@@ -46,7 +44,7 @@ fn body_text(rows: &[u32], pairs: &[u32], bytes: &[u8], out: &mut [u8]) -> usize
     let count = rows.len() / 5;
     match marking::mark(rows, pairs, bytes, &mut sheet, &mut bindings) {
         Marking::Refused(r) => {
-            lines::refused_text(refusals::number_of(r), refusals::index_of(r), out)
+            report_lines::refused_text(refusals::number_of(r), refusals::index_of(r), out)
         }
         Marking::Marked(m) => marked_text(&sheet, &bindings[..count], m, out),
     }
@@ -122,15 +120,15 @@ pub fn report(file: &[u8], length: u64, out: &mut [u8; ROOM]) -> usize
     ensures counts { λ r. ⌜ Counts r (now (out .exit)) ⌝ }
 {
     if bad_start(file, length) {
-        return lines::refused_text(0, 0, out);
+        return report_lines::refused_text(0, 0, out);
     }
     let refusal = count_refusal(file);
     if refusal != 0 {
-        return lines::refused_text(refusal, 0, out);
+        return report_lines::refused_text(refusal, 0, out);
     }
     // Never so of a file's first 52,012 bytes: a file within the limits is no longer.
     if file.len() as u64 != length {
-        return lines::refused_text(0, 0, out);
+        return report_lines::refused_text(0, 0, out);
     }
     file_text(file, out)
 }

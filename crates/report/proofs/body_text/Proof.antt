@@ -5,7 +5,7 @@ use native.Mathlib.Omega.{arith}
 use lib.ListN.{length, length-take}
 use lib.Seq.{length-take-le}
 use Prim.Native.Nat.{_/_}
-use Rattle.report.specs.Text.{refusedText}
+use Rattle.report_lines.specs.Text.{refusedText}
 use Rattle.marking.specs.Marks.{given}
 use Rattle.report.proofs.Marked.{enough, refused-text, marked-text, marked-room}
 use borrow.Author.Needs.{needs}

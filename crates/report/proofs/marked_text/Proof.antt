@@ -1,7 +1,7 @@
 -- The four parts stand one behind the other from the start on, and fit: two sheet lines and a bind line for each of 2,000 rows, and the short lines.
 -- Assumes nothing.
 use native.Mathlib.Omega.{arith}
-use Rattle.report.proofs.Writing.{behind, counts}
+use Rattle.report_lines.proofs.Writing.{behind, counts}
 use borrow.Author.Needs.{needs}
 use Rattle.report.proofs.marked_text.Statement.{statement}
 use Rattle.report.proofs.marked_text.Tie as tie
