@@ -25,9 +25,25 @@ shared-slice-read-wide-number c = search needs
 wide-number-requires : tie.Need-wide-number-requires Inv-loop μ-loop
 wide-number-requires c κs = search needs
 
+-- ---- points of the code that the answers below go back to
+abbrev at-start-1 : tie.After-wide-number Inv-loop μ-loop → tie.Start Inv-loop μ-loop
+at-start-1 c = c .before .before .before .before .before .before .before .before
+
+abbrev at-loop-test-1 : tie.After-wide-number2 Inv-loop μ-loop → tie.In-loop Inv-loop μ-loop
+at-loop-test-1 c = c .before .before .before .before
+
+abbrev at-start-2 : tie.After-wide-number2 Inv-loop μ-loop → tie.Start Inv-loop μ-loop
+at-start-2 c = at-start-1 (at-loop-test-1 c .before .before)
+
+abbrev at-loop-test-2 : tie.After-wide-word Inv-loop μ-loop → tie.In-loop Inv-loop μ-loop
+at-loop-test-2 c = c .before .before .before .before .before .before
+
+abbrev at-start-3 : tie.After-wide-word Inv-loop μ-loop → tie.Start Inv-loop μ-loop
+at-start-3 c = at-start-1 (at-loop-test-2 c .before .before)
+
 loop-holds : tie.Need-loop-holds Inv-loop μ-loop
 loop-holds c =
-    let s = c .before .before .before .before .before .before .before .before in
+    let s = at-start-1 c in
     chain-start _ _ _ _ _ _ (c .wide-number .ensures ∙ s .pre .1 .0 .0 _ (s .pre .1 .1 .2))
 
 mul-if1 : tie.Need-mul-if1 Inv-loop μ-loop
@@ -53,8 +69,8 @@ wide-word-requires c κs = search needs
 
 returns : tie.Need-returns Inv-loop μ-loop
 returns c =
-    let s = c .before .before .before .before .before .before .before .before .before .before .before .before .before .before .before .before in
-    let l = c .before .before .before .before .before .before in
+    let s = at-start-3 c in
+    let l = at-loop-test-2 c in
     c .wide-word .ensures ∙ chain-found _ _ _ _ _ _ _ _ (s .pre .1 .0 .1) _ (l .before .loop .inv) (l .loop-test .taken)
     _ (c .before .before .before .same-name .ensures) (c .before .before .if2 .taken)
 
@@ -69,15 +85,15 @@ wide-number-requires-2 c κs = search needs
 
 loop-less : tie.Need-loop-less Inv-loop μ-loop
 loop-less c =
-    let s = c .before .before .before .before .before .before .before .before .before .before .before .before .before .before in
-    let l = c .before .before .before .before in
+    let s = at-start-2 c in
+    let l = at-loop-test-1 c in
     omega (arith, c .wide-number2 .ensures, chain-falls _ _ _ _ _ _ _ _ (s .pre .1 .0 .1) _ (l .before .loop .inv) (l .loop-test .taken))
 
 loop-again : tie.Need-loop-again Inv-loop μ-loop
 loop-again c =
-    let s = c .before .before .before .before .before .before .before .before .before .before .before .before .before .before in
-    let i = c .before .before .before .before .before .loop .inv in
-    let z = c .before .before .before .before .loop-test .taken in
+    let s = at-start-2 c in
+    let i = at-loop-test-1 c .before .loop .inv in
+    let z = at-loop-test-1 c .loop-test .taken in
     let k = s .pre .1 .1 in
     rw (c .wide-number2 .ensures)
     (⊎-elim
@@ -90,7 +106,7 @@ add-result c = search needs
 
 returns-2 : tie.Need-returns-2 Inv-loop μ-loop
 returns-2 c =
-    let s = c .before .before .before .before .before .before .before .before .before .before in
+    let s = at-start-1 (c .before .before) in
     let k = s .pre .1 .1 in
     chain-end _ _ _ _ _ _ _ _ (s .pre .1 .0 .1) _ (c .before .loop .inv) _ (k .0) (k .1) (s .pre .0 .1) (omega (arith, c .loop-test .left))
 

@@ -15,9 +15,25 @@ Inv-loop pairs bytes heads₀ next-in-slot₀ keys₀ firsts₀ count n₀ heads
 abbrev μ-loop : tie.MeasureT-loop
 μ-loop pairs bytes heads₀ next-in-slot₀ keys₀ firsts₀ count n₀ heads next-in-slot keys firsts n = count - n
 
+-- ---- points of the code that the answers below go back to
+abbrev at-start-1 : tie.After-slice-known4 Inv-loop μ-loop → tie.Start Inv-loop μ-loop
+at-start-1 c = c .before .before .before .before .before .before
+
+abbrev at-slot-1 : tie.After-first-same-arg4 Inv-loop μ-loop → tie.After-slot Inv-loop μ-loop
+at-slot-1 c = c .before .before .before .before
+
+abbrev at-loop-1 : tie.After-first-same Inv-loop μ-loop → tie.At-loop Inv-loop μ-loop
+at-loop-1 c = at-slot-1 (c .before) .before .before .before .before .before
+
+abbrev at-start-2 : tie.After-first-same Inv-loop μ-loop → tie.Start Inv-loop μ-loop
+at-start-2 c = at-start-1 (at-loop-1 c .before)
+
+abbrev at-loop-test-1 : tie.After-slice-known5 Inv-loop μ-loop → tie.In-loop Inv-loop μ-loop
+at-loop-test-1 c = at-slot-1 (c .before .before) .before .before .before .before
+
 loop-holds : tie.Need-loop-holds Inv-loop μ-loop
 loop-holds c =
-    let s = c .before .before .before .before .before .before in
+    let s = at-start-1 c in
     numbering-start _ _ _ _ _ _ (s .pre .0 .0) (s .pre .0 .1) (s .pre .1)
 
 add-name : tie.Need-add-name Inv-loop μ-loop
@@ -37,7 +53,7 @@ slot-requires c κs = search needs
 
 first-same-requires : tie.Need-first-same-requires Inv-loop μ-loop
 first-same-requires c κs =
-    let k = c .before .before .before .before in
+    let k = at-slot-1 c in
     let w = k .before .before in
     let l = w .before .before in
     let r = l .before .loop .inv in
@@ -47,8 +63,8 @@ first-same-requires c κs =
 
 cast-firsts : tie.Need-cast-firsts Inv-loop μ-loop
 cast-firsts c =
-    let s = c .before .before .before .before .before .before .before .before .before .before .before .before .before .before .before .before .before in
-    let n = c .before .before .before .before .before .before .before .before .before .before .loop .n in
+    let s = at-start-2 c in
+    let n = at-loop-1 c .loop .n in
     omega (arith, c .first-same .ensures, first-within (s .args .pairs .now) (s .args .bytes .now) (suc n), number-small _ _ (s .pre .0 .0))
 
 mul-firsts : tie.Need-mul-firsts Inv-loop μ-loop
@@ -77,8 +93,8 @@ slice-write-next-in-slot c = search needs
 
 cast-heads : tie.Need-cast-heads Inv-loop μ-loop
 cast-heads c =
-    let l = c .before .before .before .before .before .before .before .before .before .before in
-    let s = l .before .before .before .before .before .before .before .before in
+    let l = at-loop-test-1 c in
+    let s = at-start-1 (l .before .before) in
     omega (arith, l .loop-test .taken, number-small _ _ (s .pre .0 .0))
 
 mul-heads : tie.Need-mul-heads Inv-loop μ-loop
@@ -95,7 +111,7 @@ loop-less c = search needs
 
 loop-again : tie.Need-loop-again Inv-loop μ-loop
 loop-again c =
-    let k = c .before .before .before .before .before .before in
+    let k = at-slot-1 (c .before .before) in
     let w = k .before .before in
     let l = w .before .before in
     numbering-next _ _ _ _ _ _ _ _ _ _ _ (l .before .loop .inv) (l .loop-test .taken) _ _ _

@@ -15,9 +15,40 @@ some-name n m e z = omega arith
 name-requires : tie.Need-name-requires
 name-requires c κs = search needs
 
+-- ---- points of the code that the answers below go back to
+abbrev at-start-1 : tie.Then1 → tie.Start
+at-start-1 c = c .before .before .before .before .before .before .before .before .before .before .before .before .before
+
+abbrev at-name-1 : tie.After-put-arg → tie.After-name
+at-name-1 c = c .before .before .before .before .before
+
+abbrev at-start-2 : tie.After-put-arg → tie.Start
+at-start-2 c = at-name-1 c .before .before .before .before .before .before .before .before .before .before .before
+
+abbrev at-if2-1 : tie.After-slice-known5 → tie.Then2
+at-if2-1 c = c .before .before .before .before
+
+abbrev at-if3-1 : tie.After-goto-branches-arg4 → tie.Then3
+at-if3-1 c = c .before .before .before .before
+
+abbrev at-if3-2 : tie.After-break-branches-arg4 → tie.Else3
+at-if3-2 c = c .before .before .before .before
+
+abbrev at-name-2 : tie.After-break-branches-arg4 → tie.After-name
+at-name-2 c = at-if3-2 c .before .before .before .before .before
+
+abbrev at-start-3 : tie.After-shared-slice-known2 → tie.Start
+at-start-3 c = c .before .before
+
+abbrev at-start-4 : tie.After-goto-branches-arg4 → tie.Start
+at-start-4 c = at-start-3 (at-if3-1 c .before .before .before .before .before .before .before .before .before .before .before .before .before .before)
+
+abbrev at-start-5 : tie.After-break-branches-arg4 → tie.Start
+at-start-5 c = at-start-3 (at-name-2 c .before .before .before .before .before .before .before .before .before)
+
 returns : tie.Need-returns
 returns c =
-    let s = c .before .before .before .before .before .before .before .before .before .before .before .before .before in
+    let s = at-start-1 c in
     let name = c .before .before .name in
     unlabelled (s .pre .0) _ _ _ _ _ _ (s .pre .1 .1 .0) (s .pre .1 .0) (s .pre .1 .1 .1) (sym (name .ensures) ∙ c .if1 .taken)
 
@@ -26,11 +57,11 @@ detail-requires c κs = search needs
 
 put-requires : tie.Need-put-requires
 put-requires c κs =
-    let s = c .before .before .before .before .before .before .before .before .before .before .before .before .before .before .before .before in
+    let s = at-start-2 c in
     let detail = c .before .before .detail in
     let if2 = c .before .if2 in
     let if1 = c .before .before .before .if1 in
-    let name = c .before .before .before .before .before .name in (
+    let name = at-name-1 c .name in (
       s .pre .1 .1 .0,
       fallthrough-fits (s .pre .0) _ _ _ _ _ _ (s .pre .1 .1 .0) (s .pre .1 .0)
           (detail-fallthrough (s .args .rows .now) _ (s .pre .0 .body .details _ (s .pre .1 .1 .0)) (s .pre .1 .1 .1) (sym (detail .ensures) ∙ if2 .taken)) (λ e. if1 .left (name .ensures ∙ e)),
@@ -38,7 +69,7 @@ put-requires c κs =
 
 add-result : tie.Need-add-result
 add-result c =
-    let s = c .before .before .before .before .before .before .before .before .before .before .before .before .before .before .before .before .before .before .before in
+    let s = at-start-2 (c .before .before .before) in
     omega (arith, faults-small (s .pre .0) _ _ _ _ _ _ (s .pre .1 .1 .0) (s .pre .1 .0))
 
 same-length : tie.Need-same-length
@@ -46,11 +77,11 @@ same-length c = search needs
 
 returns-2 : tie.Need-returns-2
 returns-2 c =
-    let s = c .before .before .before .before .before .before .before .before .before .before .before .before .before .before .before .before .before .before .before in
-    let detail = c .before .before .before .before .before .detail in
-    let if2 = c .before .before .before .before .if2 in
-    let if1 = c .before .before .before .before .before .before .if1 in
-    let name = c .before .before .before .before .before .before .before .before .name in
+    let s = at-start-2 (c .before .before .before) in
+    let detail = at-if2-1 c .before .detail in
+    let if2 = at-if2-1 c .if2 in
+    let if1 = at-if2-1 c .before .before .if1 in
+    let name = at-name-1 (c .before .before .before) .name in
     let put = c .before .before .put in
     fallthrough-walked (s .pre .0) _ _ _ _ _ _ (s .pre .1 .1 .0) (s .pre .1 .0)
     (detail-fallthrough (s .args .rows .now) _ (s .pre .0 .body .details _ (s .pre .1 .1 .0)) (s .pre .1 .1 .1) (sym (detail .ensures) ∙ if2 .taken)) (λ e. if1 .left (name .ensures ∙ e))
@@ -58,9 +89,9 @@ returns-2 c =
 
 goto-branches-requires : tie.Need-goto-branches-requires
 goto-branches-requires c κs =
-    let s = c .before .before .before .before .before .before .before .before .before .before .before .before .before .before .before .before .before .before .before .before in
-    let detail = c .before .before .before .before .before .before .detail in
-    let if3 = c .before .before .before .before .if3 in (
+    let s = at-start-4 c in
+    let detail = at-if3-1 c .before .before .detail in
+    let if3 = at-if3-1 c .if3 in (
       s .pre .0,
       (s .pre .1 .0, (s .pre .1 .1 .0, detail-goto (s .args .rows .now) _ (s .pre .0 .body .details _ (s .pre .1 .1 .0)) (s .pre .1 .1 .1) (sym (detail .ensures) ∙ if3 .taken))),
     )
@@ -82,12 +113,12 @@ returns-3 c = search needs
 
 break-branches-requires : tie.Need-break-branches-requires
 break-branches-requires c κs =
-    let s = c .before .before .before .before .before .before .before .before .before .before .before .before .before .before .before .before .before .before .before .before in
-    let if2 = c .before .before .before .before .before .if2 in
-    let detail = c .before .before .before .before .before .before .detail in
-    let if3 = c .before .before .before .before .if3 in
-    let name = c .before .before .before .before .before .before .before .before .before .name in
-    let if1 = c .before .before .before .before .before .before .before .if1 in (
+    let s = at-start-5 c in
+    let if2 = at-if3-2 c .before .if2 in
+    let detail = at-if3-2 c .before .before .detail in
+    let if3 = at-if3-2 c .if3 in
+    let name = at-name-2 c .name in
+    let if1 = at-if3-2 c .before .before .before .if1 in (
       s .pre .0,
       (
         s .pre .1 .0,

@@ -8,20 +8,36 @@ use Rattle.jumps.proofs.BranchRows.{zero-break, not-zero-continue, no-t
 use Rattle.jumps.proofs.valid_target.Statement.{statement}
 use Rattle.jumps.proofs.valid_target.Tie as tie
 
+-- ---- points of the code that the answers below go back to
+abbrev at-start-1 : tie.After-shared-slice-known7 → tie.Start
+at-start-1 c = c .before .before .before .before .before .before .before
+
+abbrev at-if1-1 : tie.After-is-loop → tie.Else1
+at-if1-1 c = c .before .before .before .before
+
+abbrev at-if1-2 : tie.After-is-breakable → tie.Else1
+at-if1-2 c = c .before .before .before .before
+
+abbrev at-start-2 : tie.After-is-breakable → tie.Start
+at-start-2 c = at-start-1 (at-if1-2 c .before .before)
+
+abbrev at-start-3 : tie.After-is-loop → tie.Start
+at-start-3 c = at-start-1 (at-if1-1 c .before .before)
+
 enclosing-target-requires : tie.Need-enclosing-target-requires
 enclosing-target-requires c κs =
-    let s = c .before .before .before .before .before .before .before in
+    let s = at-start-1 c in
     (s .pre .0, (s .pre .1 .0, (s .pre .1 .1 .0, break-branch (class (s .args .rows .now) (s .args .row .0)) (s .pre .1 .1 .1))))
 
 returns : tie.Need-returns
 returns c =
-    let s = c .before .before .before .before .before .before .before .before .before in
+    let s = at-start-1 (c .before .before) in
     let enclosing-target = c .before .enclosing-target in
     no-target (s .pre .0 .body) _ (s .pre .1 .1 .0) _ (enclosing-target .ensures) (c .if1 .taken)
 
 kind-requires : tie.Need-kind-requires
 kind-requires c κs =
-    let s = c .before .before .before .before .before .before .before .before .before in
+    let s = at-start-1 (c .before .before) in
     let enclosing-target = c .before .enclosing-target in
     target-row (s .pre .0 .body) _ (s .pre .1 .1 .0) _ (enclosing-target .ensures) (c .if1 .left)
 
@@ -36,9 +52,9 @@ is-loop-requires c κs = search needs
 
 returns-2 : tie.Need-returns-2
 returns-2 c =
-    let s = c .before .before .before .before .before .before .before .before .before .before .before .before .before in
-    let enclosing-target = c .before .before .before .before .before .enclosing-target in
-    let if1 = c .before .before .before .before .if1 in
+    let s = at-start-2 c in
+    let enclosing-target = at-if1-2 c .before .enclosing-target in
+    let if1 = at-if1-2 c .if1 in
     let kind = c .before .before .before .kind in
     let detail = c .before .before .detail in
     let if2 = c .before .if2 in
@@ -47,9 +63,9 @@ returns-2 c =
 
 returns-3 : tie.Need-returns-3
 returns-3 c =
-    let s = c .before .before .before .before .before .before .before .before .before .before .before .before .before in
-    let enclosing-target = c .before .before .before .before .before .enclosing-target in
-    let if1 = c .before .before .before .before .if1 in
+    let s = at-start-3 c in
+    let enclosing-target = at-if1-1 c .before .enclosing-target in
+    let if1 = at-if1-1 c .if1 in
     let kind = c .before .before .before .kind in
     let if2 = c .before .if2 in
     let detail = c .before .before .detail in

@@ -21,27 +21,40 @@ abbrev μ-loop : tie.MeasureT-loop
 μ-loop rows pairs bytes canonical label-rows sheet₀ bindings used₀ faults count at₀ r₀ sheet used at r =
     rowCount rows - r
 
+-- ---- points of the code that the answers below go back to
+abbrev at-start-1 : tie.After-slice-known2 Inv-loop μ-loop → tie.Start Inv-loop μ-loop
+at-start-1 c = c .before .before .before .before .before .before .before .before
+
+abbrev at-start-2 : tie.Joined1 Inv-loop μ-loop → tie.Start Inv-loop μ-loop
+at-start-2 c = at-start-1 (c .before .before .before .before)
+
+abbrev at-start-3 : tie.After-unresolved-at-arg Inv-loop μ-loop → tie.Start Inv-loop μ-loop
+at-start-3 c = at-start-1 (c .before .before .before .before .before)
+
+abbrev at-kind-1 : tie.After-unresolved-at-arg2 Inv-loop μ-loop → tie.After-kind Inv-loop μ-loop
+at-kind-1 c = c .before .before .before .before
+
 loop-holds : tie.Need-loop-holds Inv-loop μ-loop
 loop-holds c =
-    let p = c .before .before .before .before .before .before .before .before .pre in
+    let p = at-start-1 c .pre in
     (omega arith, over-start _ _ _ _ (p .1 .0) (p .1 .1) (p .1 .2), refl)
 
 kind-requires : tie.Need-kind-requires Inv-loop μ-loop
 kind-requires c κs = search needs
 
 mul-unresolved-at : tie.Need-mul-unresolved-at Inv-loop μ-loop
-mul-unresolved-at c = omega (arith, c .before .before .before .before .before .before .before .before .before .before .before .before .before .pre .0 .0 .most-rows)
+mul-unresolved-at c = omega (arith, at-start-3 c .pre .0 .0 .most-rows)
 
 shared-slice-read-unresolved-at : tie.Need-shared-slice-read-unresolved-at Inv-loop μ-loop
 shared-slice-read-unresolved-at c =
-    omega (arith, c .before .before .before .before .before .before .before .before .before .before .before .before .before .before .pre .1 .0 .bindings-room)
+    omega (arith, at-start-3 (c .before) .pre .1 .0 .bindings-room)
 
 unresolved-at-requires : tie.Need-unresolved-at-requires Inv-loop μ-loop
 unresolved-at-requires c κs =
-    let p = c .before .before .before .before .before .before .before .before .before .before .before .before .before .before .before .pre in
-    let x = c .before .before .before .before .before .before .loop .inv in
-    let h = c .before .before .before .before .before .loop-test .taken in
-    (p .0, ((h, sym (c .before .before .before .before .kind .ensures) ∙ c .before .before .before .if1 .taken, word-read _ _ _ _ (p .1 .0) h), x .1 .state))
+    let p = at-start-3 (c .before .before) .pre in
+    let x = at-kind-1 c .before .before .loop .inv in
+    let h = at-kind-1 c .before .loop-test .taken in
+    (p .0, ((h, sym (at-kind-1 c .kind .ensures) ∙ c .before .before .before .if1 .taken, word-read _ _ _ _ (p .1 .0) h), x .1 .state))
 
 add-r : tie.Need-add-r Inv-loop μ-loop
 add-r c = search needs
@@ -51,7 +64,7 @@ loop-less c = omega arith
 
 loop-again : tie.Need-loop-again Inv-loop μ-loop
 loop-again c =
-    let p = c .before .before .before .before .before .before .before .before .before .before .before .before .pre in
+    let p = at-start-2 c .pre in
     let x = c .before .before .before .loop .inv in
     let h = c .before .before .loop-test .taken in
     ⊎-elim
@@ -69,7 +82,7 @@ same-length-2 c = c .before .loop .inv .2
 
 returns : tie.Need-returns Inv-loop μ-loop
 returns c =
-    let p = c .before .before .before .before .before .before .before .before .before .before .pre in
+    let p = at-start-1 (c .before .before) .pre in
     let x = over-end (c .before .loop .inv .0) (c .loop-test .left) (c .before .loop .inv .1) in
     (over-reported _ _ _ _ x, over-used _ _ _ _ (p .0 .0) x)
 

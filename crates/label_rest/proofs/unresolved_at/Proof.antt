@@ -23,9 +23,31 @@ use Rattle.label_rest.proofs.LeftRows.{
 use Rattle.label_rest.proofs.unresolved_at.Statement.{statement}
 use Rattle.label_rest.proofs.unresolved_at.Tie as tie
 
+-- ---- points of the code that the answers below go back to
+abbrev at-start-1 : tie.After-slice-known2 → tie.Start
+at-start-1 c = c .before .before .before .before .before .before .before
+
+abbrev at-canon-of-1 : tie.Then4 → tie.After-canon-of
+at-canon-of-1 c = c .before .before .before .before
+
+abbrev at-start-2 : tie.After-put-arg2 → tie.Start
+at-start-2 c = at-start-1 (c .before .before .before .before .before .before)
+
+abbrev at-if3-1 : tie.After-put-arg → tie.Else3
+at-if3-1 c = c .before .before .before .before
+
+abbrev at-start-3 : tie.After-put-arg → tie.Start
+at-start-3 c = at-start-1 (at-canon-of-1 (c .before .before .before) .before)
+
+abbrev at-if4-1 : tie.After-slice-known4 → tie.Joined4
+at-if4-1 c = c .before .before .before .before
+
+abbrev at-if5-1 : tie.After-slice-known3 → tie.Then5
+at-if5-1 c = c .before .before .before .before
+
 canon-of-requires : tie.Need-canon-of-requires
 canon-of-requires c κs =
-    let p = c .before .before .before .before .before .before .before .pre in
+    let p = at-start-1 c .pre in
     (p .1 .0 .0, canon-fits (p .0 .0) (p .0 .1) _ (p .1 .0 .0))
 
 -- what is known of the branch once its canonical number is read
@@ -33,7 +55,7 @@ branch : (c : tie.After-canon-of) → let a = c .before .before .before .before 
     AtBranch (a .rows .now) (a .pairs .now) (a .bytes .now) (a .canonical .now) (a .label-rows .now) (a .sheet .now) (a .used .now)
     (a .row .0) (a .faults) (c .canon-of .result) (a .bound)
 branch c =
-    let p = c .before .before .before .before .before .before .before .before .pre in
+    let p = at-start-1 (c .before) .pre in
     record {
       body = p .0 .0;
       by-name = p .0 .1;
@@ -78,22 +100,22 @@ returns-3 : tie.Need-returns-3
 returns-3 c = over-unbound (branch (c .before .before .before)) (c .before .before .if1 .left) (λ e. c .if3 .taken (c .before .detail .ensures ∙ e))
 
 mul-if5 : tie.Need-mul-if5
-mul-if5 c = omega (arith, canon-small (branch (c .before .before .before .before)))
+mul-if5 c = omega (arith, canon-small (branch (at-canon-of-1 c)))
 
 shared-slice-read-if5 : tie.Need-shared-slice-read-if5
-shared-slice-read-if5 c = declared-fits (branch (c .before .before .before .before .before))
+shared-slice-read-if5 c = declared-fits (branch (at-canon-of-1 (c .before)))
 
 slice-write-used-2 : tie.Need-slice-write-used-2
-slice-write-used-2 c = used-fits (branch (c .before .before .before .before .before .before))
+slice-write-used-2 c = used-fits (branch (at-canon-of-1 (c .before .before)))
 
 put-requires : tie.Need-put-requires
 put-requires c κs =
-    let e = c .before .before .before .before in
-    (c .before .before .before .before .before .before .before .before .before .before .before .before .before .before .before .pre .1 .0 .0, sheet-fits (branch (e .before .before .before)) (e .before .before .if1 .left) (goto-detail e))
+    let e = at-if3-1 c in
+    (at-start-3 c .pre .1 .0 .0, sheet-fits (branch (e .before .before .before)) (e .before .before .if1 .left) (goto-detail e))
 
 add-result : tie.Need-add-result
 add-result c =
-    let e = c .before .before .before .before .before .before .before in
+    let e = at-if3-1 (c .before .before .before) in
     omega (arith, count-small (branch (e .before .before .before)) (e .before .before .if1 .left) (goto-detail e))
 
 same-length-2 : tie.Need-same-length-2
@@ -104,17 +126,17 @@ same-length-3 c = search needs
 
 returns-4 : tie.Need-returns-4
 returns-4 c =
-    let e = c .before .before .before .before .before .before .before in
-    over-declared (branch (e .before .before .before)) (e .before .before .if1 .left) (goto-detail e) (c .before .before .before .before .before .before .if4 .taken) (c .before .before .before .before .if5 .taken) _ (c .before .before .put .ensures)
+    let e = at-if3-1 (c .before .before .before) in
+    over-declared (branch (e .before .before .before)) (e .before .before .if1 .left) (goto-detail e) (at-if5-1 c .before .before .if4 .taken) (at-if5-1 c .if5 .taken) _ (c .before .before .put .ensures)
 
 put-requires-2 : tie.Need-put-requires-2
 put-requires-2 c κs =
     let e = c .before .before in
-    (c .before .before .before .before .before .before .before .before .before .before .before .before .before .pre .1 .0 .0, sheet-fits (branch (e .before .before .before)) (e .before .before .if1 .left) (goto-detail e))
+    (at-start-2 c .pre .1 .0 .0, sheet-fits (branch (e .before .before .before)) (e .before .before .if1 .left) (goto-detail e))
 
 add-result-2 : tie.Need-add-result-2
 add-result-2 c =
-    let e = c .before .before .before .before .before in
+    let e = at-if4-1 c .before in
     omega (arith, count-small (branch (e .before .before .before)) (e .before .before .if1 .left) (goto-detail e))
 
 same-length-4 : tie.Need-same-length-4
@@ -122,11 +144,11 @@ same-length-4 c = search needs
 
 returns-5 : tie.Need-returns-5
 returns-5 c =
-    let e = c .before .before .before .before .before in
+    let e = at-if4-1 c .before in
     ⊎-elim
     (λ x. over-undeclared (branch (e .before .before .before)) (e .before .before .if1 .left) (goto-detail e) (x .0 .taken) (x .2 .left) _ (c .before .before .put2 .ensures))
     (λ x. over-blank (branch (e .before .before .before)) (e .before .before .if1 .left) (goto-detail e) (x .left) _ (c .before .before .put2 .ensures))
-    (c .before .before .before .before .if4 .came)
+    (at-if4-1 c .if4 .came)
 
 pub unresolved-at-spec : {M : Type 1} → statement M
 unresolved-at-spec =

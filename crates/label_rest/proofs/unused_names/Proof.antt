@@ -27,30 +27,37 @@ mul-if1 c = omega (arith, pair-most (c .before .before .pre .0 .0))
 shared-slice-read-if1 : tie.Need-shared-slice-read-if1 Inv-loop μ-loop
 shared-slice-read-if1 c = omega (arith, c .before .before .before .pre .0 .1 .room)
 
+-- ---- points of the code that the answers below go back to
+abbrev at-start-1 : tie.Joined1 Inv-loop μ-loop → tie.Start Inv-loop μ-loop
+at-start-1 c = c .before .before .before .before
+
+abbrev at-start-2 : tie.After-shared-slice-known2 Inv-loop μ-loop → tie.Start Inv-loop μ-loop
+at-start-2 c = c .before .before .before .before .before
+
 shared-slice-read-if2 : tie.Need-shared-slice-read-if2 Inv-loop μ-loop
-shared-slice-read-if2 c = omega (arith, c .before .before .before .before .before .pre .0 .2 .room)
+shared-slice-read-if2 c = omega (arith, at-start-2 c .pre .0 .2 .room)
 
 cast-names : tie.Need-cast-names Inv-loop μ-loop
-cast-names c = omega (arith, pair-most (c .before .before .before .before .before .before .pre .0 .0))
+cast-names c = omega (arith, pair-most (at-start-2 (c .before) .pre .0 .0))
 
 mul-names : tie.Need-mul-names Inv-loop μ-loop
-mul-names c = omega (arith, pair-most (c .before .before .before .before .before .before .pre .0 .0))
+mul-names c = omega (arith, pair-most (at-start-2 (c .before) .pre .0 .0))
 
 slice-write-names : tie.Need-slice-write-names Inv-loop μ-loop
 slice-write-names c = omega arith
 
 add-n : tie.Need-add-n Inv-loop μ-loop
-add-n c = omega (arith, pair-most (c .before .before .before .before .before .before .pre .0 .0))
+add-n c = omega (arith, pair-most (at-start-2 (c .before) .pre .0 .0))
 
 add-c : tie.Need-add-c Inv-loop μ-loop
-add-c c = omega (arith, pair-most (c .before .before .before .before .pre .0 .0))
+add-c c = omega (arith, pair-most (at-start-1 c .pre .0 .0))
 
 loop-less : tie.Need-loop-less Inv-loop μ-loop
 loop-less c = omega arith
 
 loop-again : tie.Need-loop-again Inv-loop μ-loop
 loop-again c =
-    let p = c .before .before .before .before .pre in
+    let p = at-start-1 c .pre in
     let h = c .before .before .loop-test .taken in
     let x = c .before .before .before .loop .inv in
     ⊎-elim

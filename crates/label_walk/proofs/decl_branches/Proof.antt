@@ -15,9 +15,16 @@ shared-slice-read-wide c = search needs
 wide-requires : tie.Need-wide-requires
 wide-requires c κs = search needs
 
+-- ---- points of the code that the answers below go back to
+abbrev at-start-1 : tie.After-context-of-arg → tie.Start
+at-start-1 c = c .before .before .before .before .before .before .before .before .before
+
+abbrev at-wide-1 : tie.After-struct-known → tie.After-wide
+at-wide-1 c = c .before .before .before .before
+
 context-of-requires : tie.Need-context-of-requires
 context-of-requires c κs =
-    let s = c .before .before .before .before .before .before .before .before .before in
+    let s = at-start-1 c in
     let i = s .pre .1 .1 in
     declared-list (s .pre .0) (i .0) (s .pre .1 .0) (i .1) _ (c .before .wide .ensures)
 
@@ -29,27 +36,27 @@ declared-requires c κs = search needs
 
 cast-latest-decls : tie.Need-cast-latest-decls
 cast-latest-decls c =
-    let s = c .before .before .before .before .before .before .before .before .before .before .before .before in
+    let s = at-start-1 (c .before .before .before) in
     let i = s .pre .1 .1 in
-    omega (arith, declared-fits (s .pre .0) (i .0) (s .pre .1 .0) (i .1) _ (c .before .before .before .before .wide .ensures) (c .before .before .context-of .result) _ (c .before .declared .ensures))
+    omega (arith, declared-fits (s .pre .0) (i .0) (s .pre .1 .0) (i .1) _ (at-wide-1 c .wide .ensures) (c .before .before .context-of .result) _ (c .before .declared .ensures))
 
 sub-latest-decls : tie.Need-sub-latest-decls
 sub-latest-decls c =
-    let s = c .before .before .before .before .before .before .before .before .before .before .before .before in
+    let s = at-start-1 (c .before .before .before) in
     let i = s .pre .1 .1 in
-    omega (arith, declared-list (s .pre .0) (i .0) (s .pre .1 .0) (i .1) _ (c .before .before .before .before .wide .ensures) .0)
+    omega (arith, declared-list (s .pre .0) (i .0) (s .pre .1 .0) (i .1) _ (at-wide-1 c .wide .ensures) .0)
 
 mul-latest-decls : tie.Need-mul-latest-decls
 mul-latest-decls c =
-    let s = c .before .before .before .before .before .before .before .before .before .before .before .before in
+    let s = at-start-1 (c .before .before .before) in
     let i = s .pre .1 .1 in
-    omega (arith, declared-list (s .pre .0) (i .0) (s .pre .1 .0) (i .1) _ (c .before .before .before .before .wide .ensures) .1)
+    omega (arith, declared-list (s .pre .0) (i .0) (s .pre .1 .0) (i .1) _ (at-wide-1 c .wide .ensures) .1)
 
 slice-write-latest-decls : tie.Need-slice-write-latest-decls
 slice-write-latest-decls c =
-    let s = c .before .before .before .before .before .before .before .before .before .before .before .before in
+    let s = at-start-1 (c .before .before .before) in
     let i = s .pre .1 .1 in
-    let l = declared-list (s .pre .0) (i .0) (s .pre .1 .0) (i .1) _ (c .before .before .before .before .wide .ensures) in
+    let l = declared-list (s .pre .0) (i .0) (s .pre .1 .0) (i .1) _ (at-wide-1 c .wide .ensures) in
     omega (arith, l .0, l .2)
 
 same-length : tie.Need-same-length
@@ -57,9 +64,9 @@ same-length c = search needs
 
 returns : tie.Need-returns
 returns c =
-    let s = c .before .before .before .before .before .before .before .before .before .before .before .before in
+    let s = at-start-1 (c .before .before .before) in
     let i = s .pre .1 .1 in
-    declared (s .pre .0) (i .0) (s .pre .1 .0) (i .1) _ (c .before .before .before .before .wide .ensures) (c .before .before .context-of .result) _ (c .before .declared .ensures)
+    declared (s .pre .0) (i .0) (s .pre .1 .0) (i .1) _ (at-wide-1 c .wide .ensures) (c .before .before .context-of .result) _ (c .before .declared .ensures)
 
 pub decl-branches-spec : {M : Type 1} → statement M
 decl-branches-spec =

@@ -20,24 +20,34 @@ abbrev μ-loop : tie.MeasureT-loop
 loop-holds : tie.Need-loop-holds Inv-loop μ-loop
 loop-holds c = (omega arith, refl, (open-none _, ends-none (c .before .before .args .rows .now) _), below-none _)
 
+-- ---- points of the code that the answers below go back to
+abbrev at-start-1 : tie.After-list-at-arg Inv-loop μ-loop → tie.Start Inv-loop μ-loop
+at-start-1 c = c .before .before .before .before .before
+
+abbrev at-loop-1 : tie.After-struct-known Inv-loop μ-loop → tie.At-loop Inv-loop μ-loop
+at-loop-1 c = c .before .before .before .before
+
+abbrev at-loop-test-1 : tie.After-list-after Inv-loop μ-loop → tie.In-loop Inv-loop μ-loop
+at-loop-test-1 c = c .before .before .before .before
+
 list-at-requires : tie.Need-list-at-requires Inv-loop μ-loop
 list-at-requires c κs =
-    let p = c .before .before .before .before .before .pre in
+    let p = at-start-1 c .pre in
     let v = c .before .before .loop .inv in
     ((p .0 .0, v .2, v .3), (c .before .loop-test .taken, omega (arith, p .1, v .1)))
 
 cast-lists : tie.Need-cast-lists Inv-loop μ-loop
-cast-lists c = omega (arith, open-found _ _ _ (c .before .list-at .ensures .0) .before, c .before .before .before .loop-test .taken, c .before .before .before .before .before .before .before .pre .1)
+cast-lists c = omega (arith, open-found _ _ _ (c .before .list-at .ensures .0) .before, c .before .before .before .loop-test .taken, at-start-1 (c .before .before) .pre .1)
 
 mul-lists : tie.Need-mul-lists Inv-loop μ-loop
 mul-lists c = omega arith
 
 slice-write-lists : tie.Need-slice-write-lists Inv-loop μ-loop
-slice-write-lists c = omega (arith, c .before .before .before .before .loop .inv .1, c .before .before .before .before .before .before .before .pre .1)
+slice-write-lists c = omega (arith, at-loop-1 c .loop .inv .1, at-start-1 (c .before .before) .pre .1)
 
 list-after-requires : tie.Need-list-after-requires Inv-loop μ-loop
 list-after-requires c κs =
-    let p = c .before .before .before .before .before .before .before .pre in
+    let p = at-start-1 (c .before .before) .pre in
     ((p .0 .0, p .0 .1, c .before .before .before .loop-test .taken, p .1 .0), c .before .list-at .ensures)
 
 add-r : tie.Need-add-r Inv-loop μ-loop
@@ -48,10 +58,10 @@ loop-less c = omega arith
 
 loop-again : tie.Need-loop-again Inv-loop μ-loop
 loop-again c =
-    let l = c .before .before .before .before .before .loop in
-    let p = c .before .before .before .before .before .before .before .before .pre in
-    let here : l .r < length (l .lists) = omega (arith, p .1, l .inv .1, c .before .before .before .before .loop-test .taken) in
-    (omega (arith, c .before .before .before .before .loop-test .taken), simp length-set (l .inv .1), c .list-after .ensures, listed-more _ (l .lists) _ _ here (c .before .before .list-at .ensures .0) (l .inv .3))
+    let l = at-loop-1 (c .before) .loop in
+    let p = at-start-1 (c .before .before .before) .pre in
+    let here : l .r < length (l .lists) = omega (arith, p .1, l .inv .1, at-loop-test-1 c .loop-test .taken) in
+    (omega (arith, at-loop-test-1 c .loop-test .taken), simp length-set (l .inv .1), c .list-after .ensures, listed-more _ (l .lists) _ _ here (c .before .before .list-at .ensures .0) (l .inv .3))
 
 same-length : tie.Need-same-length Inv-loop μ-loop
 same-length c = omega arith

@@ -44,30 +44,37 @@ shared-slice-read-wide-2 c = search needs
 wide-requires-2 : tie.Need-wide-requires-2 Inv-loop μ-loop
 wide-requires-2 c κs = search needs
 
+-- ---- points of the code that the answers below go back to
+abbrev at-loop-1 : tie.After-shared-slice-known4 Inv-loop μ-loop → tie.At-loop Inv-loop μ-loop
+at-loop-1 c = c .before .before .before .before
+
+abbrev at-loop-test-1 : tie.After-wide2 Inv-loop μ-loop → tie.In-loop Inv-loop μ-loop
+at-loop-test-1 c = c .before .before .before .before
+
 returns : tie.Need-returns Inv-loop μ-loop
 returns c =
     let k = c .before in
-    let l = k .before .before .before .before in
+    let l = at-loop-test-1 k in
     empty-found _ _ _ _ _ _ (l .before .loop .inv) (l .loop-test .taken) (k .before .before .wide .ensures) (k .wide2 .ensures)
     (c .if1 .taken)
 
 returns-2 : tie.Need-returns-2 Inv-loop μ-loop
 returns-2 c =
     let k = c .before .before in
-    let l = k .before .before .before .before in
+    let l = at-loop-test-1 k in
     early-found _ _ _ _ _ _ (l .before .loop .inv) (l .loop-test .taken) (k .before .before .wide .ensures) (k .wide2 .ensures)
     (c .before .if1 .left) (c .if2 .taken)
 
 add-end : tie.Need-add-end Inv-loop μ-loop
 add-end c =
     let k = c .before .before .before in
-    let i = k .before .before .before .before .loop .i in
+    let i = at-loop-1 k .loop .i in
     omega (arith, k .before .before .shared-slice-known3 .given (i * 2), k .shared-slice-known4 .given (i * 2 + 1))
 
 returns-3 : tie.Need-returns-3 Inv-loop μ-loop
 returns-3 c =
     let k = c .before .before .before in
-    let l = k .before .before .before .before in
+    let l = at-loop-test-1 k in
     long-found _ _ _ _ _ _ (l .before .loop .inv) (l .loop-test .taken) (k .before .before .wide .ensures) (k .wide2 .ensures)
     (c .before .before .if1 .left) (c .before .if2 .left) (c .if3 .taken)
 
@@ -80,7 +87,7 @@ loop-less c = search needs
 loop-again : tie.Need-loop-again Inv-loop μ-loop
 loop-again c =
     let k = c .before .before .before in
-    let l = k .before .before .before .before in
+    let l = at-loop-test-1 k in
     passed-next _ _ _ _ _ _ (l .before .loop .inv) (l .loop-test .taken) (k .before .before .wide .ensures) (k .wide2 .ensures)
     (c .before .before .if1 .left) (c .before .if2 .left) (c .if3 .left)
 

@@ -60,10 +60,17 @@ shared-slice-read-wide-2 c = search needs
 wide-requires-2 : tie.Need-wide-requires-2
 wide-requires-2 c κs = search needs
 
+-- ---- points of the code that the answers below go back to
+abbrev at-start-1 : tie.Else2 → tie.Start
+at-start-1 c = c .before .before .before .before
+
+abbrev at-if2-1 : tie.After-wide2 → tie.Else2
+at-if2-1 c = c .before .before .before .before
+
 part-result-end-3 : tie.Need-part-result-end-3
 part-result-end-3 c =
-    let k = c .before .before .before .before in
-    part-within _ _ _ _ _ (k .before .before .before .before .pre) (k .before .if1 .left) (k .if2 .left)
+    let k = at-if2-1 c in
+    part-within _ _ _ _ _ (at-start-1 k .pre) (k .before .if1 .left) (k .if2 .left)
     (c .before .before .wide .ensures) (c .wide2 .ensures)
 
 add-end : tie.Need-add-end
@@ -77,8 +84,8 @@ part-result-start-3 c = search needs
 
 returns-3 : tie.Need-returns-3
 returns-3 c =
-    let k = c .before .before .before .before .before in
-    part-name _ _ _ _ _ (k .before .before .before .before .pre) (k .before .if1 .left) (k .if2 .left)
+    let k = at-if2-1 (c .before) in
+    part-name _ _ _ _ _ (at-start-1 k .pre) (k .before .if1 .left) (k .if2 .left)
     (c .before .before .before .wide .ensures) (c .before .wide2 .ensures)
 
 pub name-part-spec : {M : Type 1} → statement M

@@ -20,9 +20,19 @@ abbrev μ-loop : tie.MeasureT-loop
 loop-holds : tie.Need-loop-holds Inv-loop μ-loop
 loop-holds c = λ all last h. count-begins h
 
+-- ---- points of the code that the answers below go back to
+abbrev at-start-1 : tie.Then1 Inv-loop μ-loop → tie.Start Inv-loop μ-loop
+at-start-1 c = c .before .before .before .before
+
+abbrev at-start-2 : tie.Joined1 Inv-loop μ-loop → tie.Start Inv-loop μ-loop
+at-start-2 c = c .before .before .before .before
+
+abbrev at-loop-1 : tie.After-wide Inv-loop μ-loop → tie.At-loop Inv-loop μ-loop
+at-loop-1 c = c .before .before .before .before
+
 add-over : tie.Need-add-over Inv-loop μ-loop
 add-over c =
-    let q = c .before .before .before .before .pre in
+    let q = at-start-1 c .pre in
     omega (arith, count-few (q .chain) (at-counting q (c .before .before .loop .inv)), q .room)
 
 sub-wide : tie.Need-sub-wide Inv-loop μ-loop
@@ -30,12 +40,12 @@ sub-wide c = search needs
 
 mul-wide : tie.Need-mul-wide Inv-loop μ-loop
 mul-wide c =
-    let q = c .before .before .before .before .pre in
+    let q = at-start-2 c .pre in
     omega (arith, at-counting q (c .before .before .loop .inv) .low, q .room)
 
 shared-slice-read-wide : tie.Need-shared-slice-read-wide Inv-loop μ-loop
 shared-slice-read-wide c =
-    let q = c .before .before .before .before .before .pre in
+    let q = at-start-2 (c .before) .pre in
     omega (arith, at-counting q (c .before .before .before .loop .inv) .low, q .room)
 
 wide-requires : tie.Need-wide-requires Inv-loop μ-loop
@@ -43,12 +53,12 @@ wide-requires c κs = search needs
 
 loop-less : tie.Need-loop-less Inv-loop μ-loop
 loop-less c =
-    let k = at-counting (c .before .before .before .before .before .before .pre) (c .before .before .before .before .loop .inv) in
+    let k = at-counting (at-start-2 (c .before .before) .pre) (at-loop-1 c .loop .inv) in
     omega (arith, count-lower k (c .before .before .before .loop-test .taken), c .wide .ensures)
 
 loop-again : tie.Need-loop-again Inv-loop μ-loop
 loop-again c = λ all last h.
-    let k = c .before .before .before .before .loop .inv all last h in
+    let k = at-loop-1 c .loop .inv all last h in
     let t = c .before .before .before .loop-test .taken in
     ⊎-elim
     (λ v. rw (v .1) (count-yes k t (v .0 .taken) (c .wide .ensures)))

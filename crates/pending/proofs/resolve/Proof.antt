@@ -22,30 +22,46 @@ abbrev μ-loop : tie.MeasureT-loop
 loop-holds : tie.Need-loop-holds Inv-loop μ-loop
 loop-holds c = λ all last h. resolve-begins h
 
+-- ---- points of the code that the answers below go back to
+abbrev at-start-1 : tie.After-loop Inv-loop μ-loop → tie.Start Inv-loop μ-loop
+at-start-1 c = c .before .before .before .before .before .before
+
+abbrev at-start-2 : tie.After-struct-known Inv-loop μ-loop → tie.Start Inv-loop μ-loop
+at-start-2 c = c .before .before .before .before .before .before .before
+
+abbrev at-loop-1 : tie.After-shared-slice-known3 Inv-loop μ-loop → tie.At-loop Inv-loop μ-loop
+at-loop-1 c = c .before .before .before .before
+
+abbrev at-loop-test-1 : tie.After-wide Inv-loop μ-loop → tie.In-loop Inv-loop μ-loop
+at-loop-test-1 c = c .before .before .before .before
+
+abbrev at-loop-test-2 : tie.After-put-arg Inv-loop μ-loop → tie.In-loop Inv-loop μ-loop
+at-loop-test-2 c = c .before .before .before .before
+
 add-bindings : tie.Need-add-bindings Inv-loop μ-loop
-add-bindings c = let q = c .before .before .before .before .before .before .before .pre in omega (arith, q .few, q .row-in)
+add-bindings c = let q = at-start-2 c .pre in omega (arith, q .few, q .row-in)
 
 cast-bindings : tie.Need-cast-bindings Inv-loop μ-loop
-cast-bindings c = let q = c .before .before .before .before .before .before .before .pre in omega (arith, q .few, q .row-in)
+cast-bindings c = let q = at-start-2 c .pre in omega (arith, q .few, q .row-in)
 
 sub-bindings : tie.Need-sub-bindings Inv-loop μ-loop
 sub-bindings c = search needs
 
 mul-bindings : tie.Need-mul-bindings Inv-loop μ-loop
 mul-bindings c =
-    let q = c .before .before .before .before .before .before .before .pre in
+    let q = at-start-2 c .pre in
     let k = at-counting (q .counting) (c .before .before .loop .inv) in
     omega (arith, k .low, q .head-in, q .few)
 
 slice-write-bindings : tie.Need-slice-write-bindings Inv-loop μ-loop
 slice-write-bindings c =
-    let q = c .before .before .before .before .before .before .before .pre in
+    let q = at-start-2 c .pre in
     let k = at-counting (q .counting) (c .before .before .loop .inv) in
     omega (arith, k .low, k .same-bindings, q .head-in, q .bindings-room)
 
 sub-at : tie.Need-sub-at Inv-loop μ-loop
 sub-at c =
-    let q = c .before .before .before .before .before .before .before .before .pre in
+    let q = at-start-2 (c .before) .pre in
     let k = at-counting (q .counting) (c .before .before .before .loop .inv) in
     omega (arith, resolve-some k (q .from) (c .before .before .loop-test .taken) (c .if1 .taken))
 
@@ -53,31 +69,31 @@ sub-t19 : tie.Need-sub-t19 Inv-loop μ-loop
 sub-t19 c = search needs
 
 position-requires : tie.Need-position-requires Inv-loop μ-loop
-position-requires c κs = let q = c .before .before .before .before .before .before .before .before .pre in omega (arith, q .latest-in, c .if1 .taken)
+position-requires c κs = let q = at-start-2 (c .before) .pre in omega (arith, q .latest-in, c .if1 .taken)
 
 sub-t19-2 : tie.Need-sub-t19-2 Inv-loop μ-loop
 sub-t19-2 c = search needs
 
 put-requires : tie.Need-put-requires Inv-loop μ-loop
 put-requires c κs =
-    let q = c .before .before .before .before .before .before .before .before .before .before .pre in
-    let k = at-counting (q .counting) (c .before .before .before .before .before .loop .inv) in
-    let z = resolve-some k (q .from) (c .before .before .before .before .loop-test .taken) (c .before .before .if1 .taken) in
-    (omega (arith, k .low, q .head-in, c .before .before .before .before .loop-test .taken), omega (arith, k .under, k .same-sheet, q .room))
+    let q = at-start-2 (c .before .before .before) .pre in
+    let k = at-counting (q .counting) (at-loop-test-2 c .before .loop .inv) in
+    let z = resolve-some k (q .from) (at-loop-test-2 c .loop-test .taken) (c .before .before .if1 .taken) in
+    (omega (arith, k .low, q .head-in, at-loop-test-2 c .loop-test .taken), omega (arith, k .under, k .same-sheet, q .room))
 
 sub-wide : tie.Need-sub-wide Inv-loop μ-loop
 sub-wide c = search needs
 
 mul-wide : tie.Need-mul-wide Inv-loop μ-loop
 mul-wide c =
-    let q = c .before .before .before .before .before .before .before .before .pre in
+    let q = at-start-2 (c .before) .pre in
     let k = at-counting (q .counting) (c .before .before .before .loop .inv) in
     omega (arith, k .low, q .head-in, q .few)
 
 shared-slice-read-wide : tie.Need-shared-slice-read-wide Inv-loop μ-loop
 shared-slice-read-wide c =
-    let q = c .before .before .before .before .before .before .before .before .before .pre in
-    let k = at-counting (q .counting) (c .before .before .before .before .loop .inv) in
+    let q = at-start-2 (c .before .before) .pre in
+    let k = at-counting (q .counting) (at-loop-1 c .loop .inv) in
     omega (arith, k .low, q .counting .room)
 
 wide-requires : tie.Need-wide-requires Inv-loop μ-loop
@@ -85,15 +101,15 @@ wide-requires c κs = search needs
 
 loop-less : tie.Need-loop-less Inv-loop μ-loop
 loop-less c =
-    let q = c .before .before .before .before .before .before .before .before .before .before .pre in
-    let k = at-counting (q .counting) (c .before .before .before .before .before .loop .inv) in
-    omega (arith, resolve-lower k (c .before .before .before .before .loop-test .taken), c .wide .ensures)
+    let q = at-start-2 (c .before .before .before) .pre in
+    let k = at-counting (q .counting) (at-loop-1 (c .before) .loop .inv) in
+    omega (arith, resolve-lower k (at-loop-test-1 c .loop-test .taken), c .wide .ensures)
 
 loop-again : tie.Need-loop-again Inv-loop μ-loop
 loop-again c = λ all last h.
-    let q = c .before .before .before .before .before .before .before .before .before .before .pre in
-    let i = c .before .before .before .before .before .loop .inv in
-    let t = c .before .before .before .before .loop-test .taken in
+    let q = at-start-2 (c .before .before .before) .pre in
+    let i = at-loop-1 (c .before) .loop .inv in
+    let t = at-loop-test-1 c .loop-test .taken in
     ⊎-elim
     (λ v.
     let z = resolve-some (at-counting (q .counting) i) (q .from) t (v .0 .taken) in
@@ -102,10 +118,10 @@ loop-again c = λ all last h.
     (c .before .before .if1 .came)
 
 same-length : tie.Need-same-length Inv-loop μ-loop
-same-length c = at-counting (c .before .before .before .before .before .before .pre .counting) (c .before .loop .inv) .same-sheet
+same-length c = at-counting (at-start-1 c .pre .counting) (c .before .loop .inv) .same-sheet
 
 same-length-2 : tie.Need-same-length-2 Inv-loop μ-loop
-same-length-2 c = at-counting (c .before .before .before .before .before .before .pre .counting) (c .before .loop .inv) .same-bindings
+same-length-2 c = at-counting (at-start-1 c .pre .counting) (c .before .loop .inv) .same-bindings
 
 returns : tie.Need-returns Inv-loop μ-loop
 returns c = λ all last h.

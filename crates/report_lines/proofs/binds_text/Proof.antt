@@ -30,9 +30,22 @@ title-requires c κs = search needs
 loop-holds : tie.Need-loop-holds Inv-loop μ-loop
 loop-holds c = (omega arith, (omega arith, no-lines _ _ _))
 
+-- ---- points of the code that the answers below go back to
+abbrev at-title-1 : tie.After-loop Inv-loop μ-loop → tie.After-title Inv-loop μ-loop
+at-title-1 c = c .before .before .before .before
+
+abbrev at-title-2 : tie.After-bind-line-arg Inv-loop μ-loop → tie.After-title Inv-loop μ-loop
+at-title-2 c = c .before .before .before .before .before
+
+abbrev at-loop-1 : tie.After-slice-known3 Inv-loop μ-loop → tie.At-loop Inv-loop μ-loop
+at-loop-1 c = c .before .before .before .before .before
+
+abbrev at-start-1 : tie.After-slice-known3 Inv-loop μ-loop → tie.Start Inv-loop μ-loop
+at-start-1 c = at-title-2 (c .before .before .before) .before .before .before .before .before .before
+
 bind-line-requires : tie.Need-bind-line-requires Inv-loop μ-loop
 bind-line-requires c κs =
-    let t = c .before .before .before .before .before .title .ensures in
+    let t = at-title-2 c .title .ensures in
     let i = c .before .before .loop .inv in
     (omega arith, (omega arith, omega (arith, t .0 .same-length, t .1, i .1 .0, i .1 .1 .same-length)))
 
@@ -44,18 +57,18 @@ loop-less c = search needs
 
 loop-again : tie.Need-loop-again Inv-loop μ-loop
 loop-again c =
-    let l = c .before .before .before .before .before .loop in
+    let l = at-loop-1 c .loop in
     let b = c .before .before .bind-line .ensures in
-    (omega arith, (omega (arith, l .inv .1 .0, b .1), next-line (bindLine (now (c .before .before .before .before .before .before .before .before .before .before .before .before .before .before .args .bindings))) (l .row) (l .inv .1 .1) (b .0)))
+    (omega arith, (omega (arith, l .inv .1 .0, b .1), next-line (bindLine (now (at-start-1 c .args .bindings))) (l .row) (l .inv .1 .1) (b .0)))
 
 same-length : tie.Need-same-length Inv-loop μ-loop
 same-length c = search needs
 
 returns : tie.Need-returns Inv-loop μ-loop
 returns c =
-    let t = c .before .before .before .before .title .ensures in
+    let t = at-title-1 c .title .ensures in
     let l = c .before .loop in (
-      binds-put _ _ (l .row) (c .before .before .before .before .before .before .bound-count .ensures) (omega arith) (t .0) (l .inv .1 .1),
+      binds-put _ _ (l .row) (at-title-1 c .before .before .bound-count .ensures) (omega arith) (t .0) (l .inv .1 .1),
       omega (arith, t .1, l .inv .1 .0),
     )
 

@@ -57,11 +57,21 @@ word-and-requires-4 c κs = search needs
 same-length : tie.Need-same-length
 same-length c = search needs
 
+-- ---- points of the code that the answers below go back to
+abbrev at-word-and3-1 : tie.After-slice-known5 → tie.After-word-and3
+at-word-and3-1 c = c .before .before .before .before .before .before .before
+
+abbrev at-word-and2-1 : tie.After-slice-known5 → tie.After-word-and2
+at-word-and2-1 c = at-word-and3-1 c .before .before .before .before .before
+
+abbrev at-word-and-1 : tie.After-slice-known5 → tie.After-word-and
+at-word-and-1 c = at-word-and2-1 c .before .before .before .before .before
+
 returns : tie.Need-returns
 returns c =
-    let first = c .before .before .before .before .before .before .before .before .before .before .before .before .before .before .before .before .before in
-    let second = c .before .before .before .before .before .before .before .before .before .before .before .before .word-and2 .ensures in
-    let third = c .before .before .before .before .before .before .before .word-and3 .ensures in
+    let first = at-word-and-1 c in
+    let second = at-word-and2-1 c .word-and2 .ensures in
+    let third = at-word-and3-1 c .word-and3 .ensures in
     let fourth = c .before .before .word-and4 .ensures in
     (fault-put _ _ (first .word-and .ensures .0) (second .0) (third .0) (fourth .0), omega (arith, first .word-and .ensures .1, second .1, third .1, fourth .1))
 

@@ -11,11 +11,18 @@ returns c = sym (past-pairs _ _ _ (c .if1 .taken))
 returns-2 : tie.Need-returns-2
 returns-2 c = sym (labeled-name _ _ _ _ (c .before .before .pre) (c .before .if1 .left) (c .if2 .taken))
 
+-- ---- points of the code that the answers below go back to
+abbrev at-start-1 : tie.Then4 → tie.Start
+at-start-1 c = c .before .before .before .before
+
+abbrev at-start-2 : tie.Else4 → tie.Start
+at-start-2 c = c .before .before .before .before
+
 returns-3 : tie.Need-returns-3
-returns-3 c = sym (goto-name _ _ _ _ (c .before .before .before .before .pre) (c .before .before .before .if1 .left) (c .before .if3 .taken) (c .if4 .taken))
+returns-3 c = sym (goto-name _ _ _ _ (at-start-1 c .pre) (c .before .before .before .if1 .left) (c .before .if3 .taken) (c .if4 .taken))
 
 returns-4 : tie.Need-returns-4
-returns-4 c = sym (branch-name _ _ _ _ (c .before .before .before .before .pre) (c .before .before .before .if1 .left) (c .before .if3 .taken) (c .if4 .left))
+returns-4 c = sym (branch-name _ _ _ _ (at-start-2 c .pre) (c .before .before .before .if1 .left) (c .before .if3 .taken) (c .if4 .left))
 
 returns-5 : tie.Need-returns-5
 returns-5 c = sym (other-name _ _ _ _ (c .before .before .before .pre) (c .before .before .if1 .left) (c .before .if2 .left) (c .if3 .left))

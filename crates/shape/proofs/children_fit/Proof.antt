@@ -22,8 +22,21 @@ size-requires c κs = search needs
 add-end : tie.Need-add-end Inv-loop μ-loop
 add-end c = let s = c .before .before .before in omega (arith, s .pre .1 .within (s .args .row .0) (s .pre .0))
 
+-- ---- points of the code that the answers below go back to
+abbrev at-start-1 : tie.After-struct-known2 Inv-loop μ-loop → tie.Start Inv-loop μ-loop
+at-start-1 c = c .before .before .before .before
+
+abbrev at-size-1 : tie.In-loop Inv-loop μ-loop → tie.After-size Inv-loop μ-loop
+at-size-1 c = c .before .before .before .before
+
+abbrev at-size-2 : tie.After-loop Inv-loop μ-loop → tie.After-size Inv-loop μ-loop
+at-size-2 c = c .before .before .before .before
+
+abbrev at-loop-test-1 : tie.After-size2 Inv-loop μ-loop → tie.In-loop Inv-loop μ-loop
+at-loop-test-1 c = c .before .before .before .before
+
 add-c : tie.Need-add-c Inv-loop μ-loop
-add-c c = omega (arith, c .before .before .before .before .pre .0)
+add-c c = omega (arith, at-start-1 c .pre .0)
 
 loop-holds : tie.Need-loop-holds Inv-loop μ-loop
 loop-holds c =
@@ -41,7 +54,7 @@ may-hold-requires c κs = search needs
 returns : tie.Need-returns Inv-loop μ-loop
 returns c =
     let p = c .before .before .before in
-    let z = p .before .before .before .before in
+    let z = at-size-1 p in
     let s = z .before .before in
     let l = p .before .loop in
     barred (s .args .rows .now) (held (s .args .holding)) (s .args .row .0) (z .size .ensures) (l .inv) (p .loop-test .taken)
@@ -52,15 +65,15 @@ size-requires-2 c κs = search needs
 
 add-c-2 : tie.Need-add-c-2 Inv-loop μ-loop
 add-c-2 c =
-    let p = c .before .before .before .before in
-    let z = p .before .before .before .before in
+    let p = at-loop-test-1 c in
+    let z = at-size-1 p in
     let s = z .before .before in
     omega (arith, s .pre .1 .within (p .before .loop .c) (omega arith))
 
 returns-2 : tie.Need-returns-2 Inv-loop μ-loop
 returns-2 c =
-    let p = c .before .before .before .before .before in
-    let z = p .before .before .before .before in
+    let p = at-loop-test-1 (c .before) in
+    let z = at-size-1 p in
     let s = z .before .before in
     past (s .args .rows .now) (held (s .args .holding)) (s .args .row .0) (z .size .ensures) (p .before .loop .inv) (p .loop-test .taken)
     (c .before .size2 .ensures) (c .if2 .taken)
@@ -70,15 +83,15 @@ add-i c = omega arith
 
 loop-less : tie.Need-loop-less Inv-loop μ-loop
 loop-less c =
-    let p = c .before .before .before .before .before in
-    let z = p .before .before .before .before in
+    let p = at-loop-test-1 (c .before) in
+    let z = at-size-1 p in
     let s = z .before .before in
     omega (arith, s .pre .1 .some-rows (p .before .loop .c) (omega arith))
 
 loop-again : tie.Need-loop-again Inv-loop μ-loop
 loop-again c =
-    let p = c .before .before .before .before .before in
-    let z = p .before .before .before .before in
+    let p = at-loop-test-1 (c .before) in
+    let z = at-size-1 p in
     let s = z .before .before in
     let m = c .before .before in
     let l = p .before .loop in
@@ -92,7 +105,7 @@ at-least-requires c κs = search needs
 returns-3 : tie.Need-returns-3 Inv-loop μ-loop
 returns-3 c =
     let p = c .before in
-    let z = p .before .before .before .before in
+    let z = at-size-2 p in
     let s = z .before .before in
     ended (s .args .rows .now) (held (s .args .holding)) (s .args .row .0) (z .size .ensures) (p .before .loop .inv) (p .loop-test .left) (c .at-least .ensures)
 

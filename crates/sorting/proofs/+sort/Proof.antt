@@ -28,8 +28,24 @@ sort-below t = and 4 sort-kinds.ps (falls 4 sort-kinds.ps _<_ μ-sort t) sort.Pr
 abbrev sort-calls : ℕ → sort-lts.Claims
 sort-calls t = (sort-below t, sort.Post, join-reads.Asked, join-reads.Learnt)
 
+-- ---- points of the code that the answers below go back to
+abbrev at-start-1 : {t : ℕ} → sort-lts.Then1 (sort-calls t) (sort-at t) sort.Post → sort-lts.Start (sort-calls t) (sort-at t) sort.Post
+at-start-1 c = c .before .before .before .before .before
+
+abbrev at-start-2 : {t : ℕ} → sort-lts.After-sort-arg2 (sort-calls t) (sort-at t) sort.Post → sort-lts.Start (sort-calls t) (sort-at t) sort.Post
+at-start-2 c = c .before .before .before .before .before .before .before
+
+abbrev at-if1-1 : {t : ℕ} → sort-lts.After-sort-arg4 (sort-calls t) (sort-at t) sort.Post → sort-lts.Else1 (sort-calls t) (sort-at t) sort.Post
+at-if1-1 c = c .before .before .before .before .before .before .before .before .before
+
+abbrev at-sort-arg4-1 : {t : ℕ} → sort-lts.After-join-arg2 (sort-calls t) (sort-at t) sort.Post → sort-lts.After-sort-arg4 (sort-calls t) (sort-at t) sort.Post
+at-sort-arg4-1 c = c .before .before .before .before .before .before .before
+
+abbrev at-join-1 : {t : ℕ} → sort-lts.After-slice-known8 (sort-calls t) (sort-at t) sort.Post → sort-lts.After-join (sort-calls t) (sort-at t) sort.Post
+at-join-1 c = c .before .before .before .before
+
 sort-returns : (t : ℕ) → sort-lts.Need-returns (sort-calls t) (sort-at t) sort.Post
-sort-returns t c = (sorted-short _ _ (c .before .before .before .before .before .args .names .now) (c .if1 .taken), λ P. refl)
+sort-returns t c = (sorted-short _ _ (at-start-1 c .args .names .now) (c .if1 .taken), λ P. refl)
 
 sort-slice-relend-prefix-sort : (t : ℕ) → sort-lts.Need-slice-relend-prefix-sort (sort-calls t) (sort-at t) sort.Post
 sort-slice-relend-prefix-sort t c = search needs
@@ -45,7 +61,7 @@ sort-slice-aggregate-sort-2 t c = simp length-take (omega arith)
 
 sort-sort-requires : (t : ℕ) → sort-lts.Need-sort-requires (sort-calls t) (sort-at t) sort.Post
 sort-sort-requires t c κs =
-    let s = c .before .before .before .before .before .before .before in
+    let s = at-start-2 c in
     let r = first-half (s .args .names .now) (s .args .spare .now) t (s .pre .0) (c .before .before .if1 .left) (s .pre .1 .1) in
     (r .0, (s .pre .1 .0, r .1))
 
@@ -106,24 +122,24 @@ secondAt t c =
 
 sort-sort-requires-2 : (t : ℕ) → sort-lts.Need-sort-requires-2 (sort-calls t) (sort-at t) sort.Post
 sort-sort-requires-2 t c κs =
-    let r = second-half (firstAt t c) t (start t c .pre .0) (c .before .before .before .before .before .before .before .before .before .if1 .left) in
+    let r = second-half (firstAt t c) t (start t c .pre .0) (at-if1-1 c .if1 .left) in
     (r .0, (start t c .pre .1 .0, r .1))
 
 sort-join-requires : (t : ℕ) → sort-lts.Need-join-requires (sort-calls t) (sort-at t) sort.Post
-sort-join-requires t c κs = (start t (c .before .before .before .before .before .before .before) .pre .1 .0, halves-sorted _ (secondAt t c))
+sort-join-requires t c κs = (start t (at-sort-arg4-1 c) .pre .1 .0, halves-sorted _ (secondAt t c))
 
 sort-same-length : (t : ℕ) → sort-lts.Need-same-length (sort-calls t) (sort-at t) sort.Post
 sort-same-length t c =
-    halves-length _ (secondAt t (c .before .before .before .before .before)) _ (c .before .before .before .before .join .kept .1 .1 .0)
+    halves-length _ (secondAt t (at-join-1 c .before)) _ (at-join-1 c .join .kept .1 .1 .0)
 
 sort-same-length-2 : (t : ℕ) → sort-lts.Need-same-length-2 (sort-calls t) (sort-at t) sort.Post
 sort-same-length-2 t c =
-    spares-length _ (secondAt t (c .before .before .before .before .before)) _ (c .before .before .before .before .join .kept .1 .1 .1 .1 .0)
+    spares-length _ (secondAt t (at-join-1 c .before)) _ (at-join-1 c .join .kept .1 .1 .1 .1 .0)
 
 sort-returns-2 : (t : ℕ) → sort-lts.Need-returns-2 (sort-calls t) (sort-at t) sort.Post
 sort-returns-2 t c =
-    let j = c .before .before .before .before .join .ensures in
-    (j .0, halves-same _ (secondAt t (c .before .before .before .before .before)) _ (j .1))
+    let j = at-join-1 c .join .ensures in
+    (j .0, halves-same _ (secondAt t (at-join-1 c .before)) _ (j .1))
 
 pub +sort-spec : {M : Type 1} → statement M
 +sort-spec = close μ-sort λ t. sort-lts.spec (sort-calls t)

@@ -15,8 +15,15 @@ Inv-loop pairs bytes names mid out₀ i₀ j₀ k₀ out i j k = Merging pairs b
 abbrev μ-loop : tie.MeasureT-loop
 μ-loop pairs bytes names mid out₀ i₀ j₀ k₀ out i j k = length names - k
 
+-- ---- points of the code that the answers below go back to
+abbrev at-start-1 : tie.After-slice-known Inv-loop μ-loop → tie.Start Inv-loop μ-loop
+at-start-1 c = c .before .before .before .before
+
+abbrev at-start-2 : tie.Joined1 Inv-loop μ-loop → tie.Start Inv-loop μ-loop
+at-start-2 c = at-start-1 (c .before .before .before .before)
+
 loop-holds : tie.Need-loop-holds Inv-loop μ-loop
-loop-holds c = let s = c .before .before .before .before in merge-start _ _ _ _ (s .pre .1 .0 .0) _ (s .pre .1 .0 .1)
+loop-holds c = let s = at-start-1 c in merge-start _ _ _ _ (s .pre .1 .0 .0) _ (s .pre .1 .0 .1)
 
 takes-left-requires : tie.Need-takes-left-requires Inv-loop μ-loop
 takes-left-requires c κs = search needs
@@ -59,7 +66,7 @@ loop-less c = search needs
 
 loop-again : tie.Need-loop-again Inv-loop μ-loop
 loop-again c =
-    let s = c .before .before .before .before .before .before .before .before in
+    let s = at-start-2 c in
     let w = c .before .before .before .loop .inv in
     ⊎-elim
     (λ a.
@@ -74,7 +81,7 @@ same-length : tie.Need-same-length Inv-loop μ-loop
 same-length c = search needs
 
 returns : tie.Need-returns Inv-loop μ-loop
-returns c = let s = c .before .before .before .before .before .before in merge-end _ _ _ _ (s .pre .1 .0 .0) _ _ _ _ (c .before .loop .inv) (c .loop-test .left)
+returns c = let s = at-start-1 (c .before .before) in merge-end _ _ _ _ (s .pre .1 .0 .0) _ _ _ _ (c .before .loop .inv) (c .loop-test .left)
 
 pub merge-spec : {M : Type 1} → statement M
 merge-spec =

@@ -19,9 +19,19 @@ Inv-loop rows pairs bytes canonical label-rows₀ count r₀ label-rows r =
 abbrev μ-loop : tie.MeasureT-loop
 μ-loop rows pairs bytes canonical label-rows₀ count r₀ label-rows r = count - r
 
+-- ---- points of the code that the answers below go back to
+abbrev at-start-1 : tie.After-slice-known Inv-loop μ-loop → tie.Start Inv-loop μ-loop
+at-start-1 c = c .before .before .before .before .before
+
+abbrev at-start-2 : tie.Joined1 Inv-loop μ-loop → tie.Start Inv-loop μ-loop
+at-start-2 c = at-start-1 (c .before .before .before .before)
+
+abbrev at-start-3 : tie.Then1 Inv-loop μ-loop → tie.Start Inv-loop μ-loop
+at-start-3 c = at-start-1 (c .before .before .before .before)
+
 loop-holds : tie.Need-loop-holds Inv-loop μ-loop
 loop-holds c =
-    let s = c .before .before .before .before .before in
+    let s = at-start-1 c in
     (refl, refl, declaring-start (s .pre .0 .0) _ (s .pre .1 .0) (s .pre .1 .1))
 
 kind-requires : tie.Need-kind-requires Inv-loop μ-loop
@@ -29,7 +39,7 @@ kind-requires c κs = search needs
 
 canon-of-requires : tie.Need-canon-of-requires Inv-loop μ-loop
 canon-of-requires c κs =
-    let s = c .before .before .before .before .before .before .before .before .before in
+    let s = at-start-3 c in
     let h = c .before .before .loop-test .taken in
     (h, canon-room (s .pre .0 .0) (s .pre .0 .1) _ h)
 
@@ -38,7 +48,7 @@ at-place : (c : tie.After-canon-of Inv-loop μ-loop) →
     Placed (c .before .before .before .before .before .before .before .before .before .before .pre .0 .0)
     (c .before .before .before .before .loop .label-rows) (c .before .before .before .before .loop .r) (c .canon-of .result)
 at-place c =
-    let s = c .before .before .before .before .before .before .before .before .before .before in
+    let s = at-start-3 (c .before) in
     let l = c .before .before .before in
     placed (s .pre .0 .0) (s .pre .0 .1) (l .loop-test .taken) (l .before .loop .inv .2) _ (c .canon-of .ensures)
 
@@ -74,7 +84,7 @@ loop-less c = search needs
 
 loop-again : tie.Need-loop-again Inv-loop μ-loop
 loop-again c =
-    let s = c .before .before .before .before .before .before .before .before .before in
+    let s = at-start-2 c in
     let l = c .before .before .before .loop in
     let i = l .inv in
     let h = c .before .before .loop-test .taken in
@@ -98,7 +108,7 @@ same-length c = search needs
 
 returns : tie.Need-returns Inv-loop μ-loop
 returns c =
-    let s = c .before .before .before .before .before .before .before in declaring-end (s .pre .0 .0) _ _ (c .before .loop .inv .2) (c .loop-test .left)
+    let s = at-start-1 (c .before .before) in declaring-end (s .pre .0 .0) _ _ (c .before .loop .inv .2) (c .loop-test .left)
 
 pub declared-table-spec : {M : Type 1} → statement M
 declared-table-spec =

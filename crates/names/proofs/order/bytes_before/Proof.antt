@@ -35,10 +35,26 @@ shared-slice-read-result c = omega arith
 shared-slice-read-result-2 : tie.Need-shared-slice-read-result-2 Inv-loop μ-loop
 shared-slice-read-result-2 c = omega arith
 
+-- ---- points of the code that the answers below go back to
+abbrev at-start-1 : tie.After-loop Inv-loop μ-loop → tie.Start Inv-loop μ-loop
+at-start-1 c = c .before .before .before .before .before
+
+abbrev at-loop-1 : tie.Else1 Inv-loop μ-loop → tie.At-loop Inv-loop μ-loop
+at-loop-1 c = c .before .before .before .before
+
+abbrev at-start-2 : tie.Else1 Inv-loop μ-loop → tie.Start Inv-loop μ-loop
+at-start-2 c = at-loop-1 c .before .before .before .before
+
+abbrev at-loop-2 : tie.After-shared-slice-known6 Inv-loop μ-loop → tie.At-loop Inv-loop μ-loop
+at-loop-2 c = c .before .before .before .before .before .before
+
+abbrev at-start-3 : tie.After-shared-slice-known6 Inv-loop μ-loop → tie.Start Inv-loop μ-loop
+at-start-3 c = at-loop-2 c .before .before .before .before
+
 returns : tie.Need-returns Inv-loop μ-loop
 returns c =
-    let s = c .before .before .before .before .before .before .before .before .before .before .args in
-    let l = c .before .before .before .before .before .before .loop in
+    let s = at-start-3 c .args in
+    let l = at-loop-2 c .loop in
     first-other (s .a .now) (s .b .now) (l .i) (omega arith) (omega arith) (c .before .before .if1 .taken) ∙ sym (l .inv .3)
 
 add-i : tie.Need-add-i Inv-loop μ-loop
@@ -49,13 +65,13 @@ loop-less c = omega arith
 
 loop-again : tie.Need-loop-again Inv-loop μ-loop
 loop-again c =
-    let s = c .before .before .before .before .before .before .before .before .args in
-    let l = c .before .before .before .before .loop in
+    let s = at-start-2 c .args in
+    let l = at-loop-1 c .loop in
     (omega arith, l .inv .1, l .inv .2, l .inv .3 ∙ before-next (s .a .now) (s .b .now) (l .i) (omega arith) (omega arith) (c .if1 .left))
 
 returns-2 : tie.Need-returns-2 Inv-loop μ-loop
 returns-2 c =
-    let s = c .before .before .before .before .before .args in
+    let s = at-start-1 c .args in
     let l = c .before .loop in
     let m = c .before .before .least .ensures in
     before-lengths (s .a .now) (s .b .now) (l .i) (λ h. omega (arith, m .2 h, l .inv .0)) (λ h. omega (arith, m .3 h, l .inv .0)) ∙ sym (l .inv .3)

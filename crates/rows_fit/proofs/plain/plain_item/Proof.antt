@@ -42,14 +42,21 @@ returns-5 c = never
 name-word-requires : tie.Need-name-word-requires
 name-word-requires c κs = search needs
 
+-- ---- points of the code that the answers below go back to
+abbrev at-detail-allowed-1 : tie.After-name-word → tie.After-detail-allowed
+at-detail-allowed-1 c = c .before .before .before .before
+
+abbrev at-kind-1 : tie.After-name-word → tie.After-kind
+at-kind-1 c = at-detail-allowed-1 c .before .before .before .before
+
 returns-6 : tie.Need-returns-6
 returns-6 c y =
-    let k = c .before .before .before .before .before .before .before .before .kind .ensures in
+    let k = at-kind-1 c .kind .ensures in
     plain-row _ _
-    (omega (arith, c .before .before .before .before .before .before .before .before .before .before .size .ensures, c .before .before .before .before .before .before .before .before .before .if1 .left))
-    (λ e. c .before .before .before .before .before .before .before .if2 .left (k ∙ e))
-    (omega (arith, k, c .before .before .before .before .before .before .if3 .left))
-    (rw (← k, ← c .before .before .before .before .before .detail .ensures) (sym (c .before .before .before .before .detail-allowed .ensures) ∙ not-false _ (c .before .before .before .if4 .left)))
+    (omega (arith, at-kind-1 c .before .before .size .ensures, at-kind-1 c .before .if1 .left))
+    (λ e. at-detail-allowed-1 c .before .before .before .if2 .left (k ∙ e))
+    (omega (arith, k, at-detail-allowed-1 c .before .before .if3 .left))
+    (rw (← k, ← at-detail-allowed-1 c .before .detail .ensures) (sym (at-detail-allowed-1 c .detail-allowed .ensures) ∙ not-false _ (c .before .before .before .if4 .left)))
     (λ e. c .before .if5 .left (c .before .before .position .ensures ∙ e))
     (sym (c .name-word .ensures) ∙ eqb-true (c .name-word .result) 0 y)
 

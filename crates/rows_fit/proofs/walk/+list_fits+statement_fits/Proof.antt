@@ -80,9 +80,43 @@ statement-fits-calls t = (size-reads.Asked, size-reads.Learnt, row-allowed-reads
 abbrev List-known : (t : ℕ) → list-fits-lts.Else1 (list-fits-calls t) (list-fits-at t) list-fits.Post list-fits-Inv-loop list-fits-μ-loop → Type 0
 List-known t c = let a = c .before .before .before .before .args in List-at (a .rows .now) (a .row .0) (c .before .before .size .result) (a .depth)
 
+-- ---- points of the code that the answers below go back to
+abbrev list-fits-at-start-1 : {t : ℕ} → list-fits-lts.Else1 (list-fits-calls t) (list-fits-at t) list-fits.Post list-fits-Inv-loop list-fits-μ-loop → list-fits-lts.Start (list-fits-calls t) (list-fits-at t) list-fits.Post list-fits-Inv-loop list-fits-μ-loop
+list-fits-at-start-1 c = c .before .before .before .before
+
+abbrev list-fits-at-start-2 : {t : ℕ} → list-fits-lts.After-struct-known2 (list-fits-calls t) (list-fits-at t) list-fits.Post list-fits-Inv-loop list-fits-μ-loop → list-fits-lts.Start (list-fits-calls t) (list-fits-at t) list-fits.Post list-fits-Inv-loop list-fits-μ-loop
+list-fits-at-start-2 c = c .before .before .before .before .before
+
+abbrev list-fits-at-if1-1 : {t : ℕ} → list-fits-lts.After-loop (list-fits-calls t) (list-fits-at t) list-fits.Post list-fits-Inv-loop list-fits-μ-loop → list-fits-lts.Else1 (list-fits-calls t) (list-fits-at t) list-fits.Post list-fits-Inv-loop list-fits-μ-loop
+list-fits-at-if1-1 c = c .before .before .before .before
+
+abbrev list-fits-at-if1-2 : {t : ℕ} → list-fits-lts.Joined2 (list-fits-calls t) (list-fits-at t) list-fits.Post list-fits-Inv-loop list-fits-μ-loop → list-fits-lts.Else1 (list-fits-calls t) (list-fits-at t) list-fits.Post list-fits-Inv-loop list-fits-μ-loop
+list-fits-at-if1-2 c = c .before .before .before .before .before
+
+abbrev list-fits-at-if3-1 : {t : ℕ} → list-fits-lts.After-row-known (list-fits-calls t) (list-fits-at t) list-fits.Post list-fits-Inv-loop list-fits-μ-loop → list-fits-lts.Then3 (list-fits-calls t) (list-fits-at t) list-fits.Post list-fits-Inv-loop list-fits-μ-loop
+list-fits-at-if3-1 c = c .before .before .before .before .before .before
+
+abbrev list-fits-at-shared-slice-known-1 : {t : ℕ} → list-fits-lts.After-row-known (list-fits-calls t) (list-fits-at t) list-fits.Post list-fits-Inv-loop list-fits-μ-loop → list-fits-lts.After-shared-slice-known (list-fits-calls t) (list-fits-at t) list-fits.Post list-fits-Inv-loop list-fits-μ-loop
+list-fits-at-shared-slice-known-1 c = list-fits-at-if1-2 (list-fits-at-if3-1 c .before) .before .before .before
+
+abbrev list-fits-at-if1-3 : {t : ℕ} → list-fits-lts.Else6 (list-fits-calls t) (list-fits-at t) list-fits.Post list-fits-Inv-loop list-fits-μ-loop → list-fits-lts.Else1 (list-fits-calls t) (list-fits-at t) list-fits.Post list-fits-Inv-loop list-fits-μ-loop
+list-fits-at-if1-3 c = list-fits-at-if1-2 (list-fits-at-if3-1 (c .before) .before)
+
+abbrev list-fits-at-start-3 : {t : ℕ} → list-fits-lts.Else6 (list-fits-calls t) (list-fits-at t) list-fits.Post list-fits-Inv-loop list-fits-μ-loop → list-fits-lts.Start (list-fits-calls t) (list-fits-at t) list-fits.Post list-fits-Inv-loop list-fits-μ-loop
+list-fits-at-start-3 c = list-fits-at-start-1 (list-fits-at-if1-3 c)
+
+abbrev list-fits-at-if4-1 : {t : ℕ} → list-fits-lts.Else7 (list-fits-calls t) (list-fits-at t) list-fits.Post list-fits-Inv-loop list-fits-μ-loop → list-fits-lts.Else4 (list-fits-calls t) (list-fits-at t) list-fits.Post list-fits-Inv-loop list-fits-μ-loop
+list-fits-at-if4-1 c = c .before .before .before .before .before .before
+
+abbrev list-fits-at-if2-1 : {t : ℕ} → list-fits-lts.Else7 (list-fits-calls t) (list-fits-at t) list-fits.Post list-fits-Inv-loop list-fits-μ-loop → list-fits-lts.Joined2 (list-fits-calls t) (list-fits-at t) list-fits.Post list-fits-Inv-loop list-fits-μ-loop
+list-fits-at-if2-1 c = list-fits-at-if3-1 (c .before .before .before) .before
+
+abbrev list-fits-at-item-kind-1 : {t : ℕ} → list-fits-lts.Else7 (list-fits-calls t) (list-fits-at t) list-fits.Post list-fits-Inv-loop list-fits-μ-loop → list-fits-lts.After-item-kind (list-fits-calls t) (list-fits-at t) list-fits.Post list-fits-Inv-loop list-fits-μ-loop
+list-fits-at-item-kind-1 c = list-fits-at-if2-1 c .before .before .before .before
+
 list-known : (t : ℕ) (c : list-fits-lts.Else1 (list-fits-calls t) (list-fits-at t) list-fits.Post list-fits-Inv-loop list-fits-μ-loop) → List-known t c
 list-known t c =
-    let s = c .before .before .before .before in
+    let s = list-fits-at-start-1 c in
     record { met = s .pre .1 .0; details = s .pre .1 .1; list = s .pre .1 .2; size-is = c .before .before .size .ensures }
 
 -- past a run of plain items the walk stands at the next item, or has come to the end
@@ -115,11 +149,11 @@ Item-known t c =
 
 item-known : (t : ℕ) (c : list-fits-lts.Else6 (list-fits-calls t) (list-fits-at t) list-fits.Post list-fits-Inv-loop list-fits-μ-loop) → Item-known t c
 item-known t c =
-    let j = c .before .before .before .before .before .before .before .before in
+    let j = list-fits-at-if3-1 (c .before) .before in
     record {
-      list = list-known t (j .before .before .before .before .before);
+      list = list-known t (list-fits-at-if1-2 j);
       listed = past-run t j .1;
-      left = c .before .before .before .before .before .before .before .if3 .taken;
+      left = list-fits-at-if3-1 (c .before) .if3 .taken;
       size-is = c .before .before .before .size2 .ensures;
       some-rows = omega (arith, c .before .before .if5 .left);
       within = omega (arith, c .if6 .left);
@@ -132,16 +166,16 @@ list-fits-add-end : (t : ℕ) → list-fits-lts.Need-add-end (list-fits-calls t)
 list-fits-add-end t c = omega (arith, c .before .before .before .pre .1 .0 .within, c .before .before .before .pre .1 .0 .most-rows, c .before .size .ensures)
 
 list-fits-add-result : (t : ℕ) → list-fits-lts.Need-add-result (list-fits-calls t) (list-fits-at t) list-fits.Post list-fits-Inv-loop list-fits-μ-loop
-list-fits-add-result t c = omega (arith, c .before .before .before .before .before .pre .1 .0 .row, c .before .before .before .before .before .pre .1 .0 .most-rows)
+list-fits-add-result t c = omega (arith, list-fits-at-start-2 c .pre .1 .0 .row, list-fits-at-start-2 c .pre .1 .0 .most-rows)
 
 list-fits-returns : (t : ℕ) → list-fits-lts.Need-returns (list-fits-calls t) (list-fits-at t) list-fits.Post list-fits-Inv-loop list-fits-μ-loop
-list-fits-returns t c y p e = no-items _ p _ (c .before .before .before .size .ensures) (c .before .before .before .before .before .pre .1 .2) (eqb-true _ _ y)
+list-fits-returns t c y p e = no-items _ p _ (c .before .before .before .size .ensures) (list-fits-at-start-2 c .pre .1 .2) (eqb-true _ _ y)
 
 list-fits-item-kind-requires : (t : ℕ) → list-fits-lts.Need-item-kind-requires (list-fits-calls t) (list-fits-at t) list-fits.Post list-fits-Inv-loop list-fits-μ-loop
-list-fits-item-kind-requires t c κs = (c .before .before .before .before .pre .1 .0 .row, c .before .before .before .before .pre .1 .1)
+list-fits-item-kind-requires t c κs = (list-fits-at-start-1 c .pre .1 .0 .row, list-fits-at-start-1 c .pre .1 .1)
 
 list-fits-add-c : (t : ℕ) → list-fits-lts.Need-add-c (list-fits-calls t) (list-fits-at t) list-fits.Post list-fits-Inv-loop list-fits-μ-loop
-list-fits-add-c t c = omega (arith, c .before .before .before .before .before .before .pre .1 .0 .row, c .before .before .before .before .before .before .pre .1 .0 .most-rows)
+list-fits-add-c t c = omega (arith, list-fits-at-start-1 (c .before .before) .pre .1 .0 .row, list-fits-at-start-1 (c .before .before) .pre .1 .0 .most-rows)
 
 list-fits-loop-holds : (t : ℕ) → list-fits-lts.Need-loop-holds (list-fits-calls t) (list-fits-at t) list-fits.Post list-fits-Inv-loop list-fits-μ-loop
 list-fits-loop-holds t c = from-first (begins (somePairs _) (list-known t (c .before .before)))
@@ -166,17 +200,17 @@ list-fits-returns-3 t c = never
 
 list-fits-add-if6 : (t : ℕ) → list-fits-lts.Need-add-if6 (list-fits-calls t) (list-fits-at t) list-fits.Post list-fits-Inv-loop list-fits-μ-loop
 list-fits-add-if6 t c =
-    let i = c .before .before .before .before .before .before in
-    omega (arith, item-in-rows t i, c .before .before .before .before .before .before .before .before .before .before .before .before .before .before .before .before .pre .1 .0 .most-rows, c .before .before .size2 .ensures, c .before .before .before .before .before .before .before .before .before .before .before .before .before .before .before .shared-slice-known .given (i .before .if2 .c * 5 + 4))
+    let i = list-fits-at-if3-1 c in
+    omega (arith, item-in-rows t i, list-fits-at-shared-slice-known-1 c .before .pre .1 .0 .most-rows, c .before .before .size2 .ensures, list-fits-at-shared-slice-known-1 c .shared-slice-known .given (i .before .if2 .c * 5 + 4))
 
 list-fits-returns-4 : (t : ℕ) → list-fits-lts.Need-returns-4 (list-fits-calls t) (list-fits-at t) list-fits.Post list-fits-Inv-loop list-fits-μ-loop
 list-fits-returns-4 t c = never
 
 list-fits-add-statement-fits : (t : ℕ) → list-fits-lts.Need-add-statement-fits (list-fits-calls t) (list-fits-at t) list-fits.Post list-fits-Inv-loop list-fits-μ-loop
-list-fits-add-statement-fits t c = omega (arith, c .before .before .before .before .before .before .before .before .before .before .before .before .before .if1 .left)
+list-fits-add-statement-fits t c = omega (arith, list-fits-at-if1-3 c .if1 .left)
 
 list-fits-statement-fits-requires : (t : ℕ) → list-fits-lts.Need-statement-fits-requires (list-fits-calls t) (list-fits-at t) list-fits.Post list-fits-Inv-loop list-fits-μ-loop
-list-fits-statement-fits-requires t c κs = item-call (item-known t c) (omega (arith, c .before .before .before .before .before .before .before .before .before .before .before .before .before .if1 .left)) (c .before .before .before .before .before .before .before .before .before .before .before .before .before .before .before .before .before .pre .0)
+list-fits-statement-fits-requires t c κs = item-call (item-known t c) (omega (arith, list-fits-at-if1-3 c .if1 .left)) (list-fits-at-start-3 c .pre .0)
 
 list-fits-returns-5 : (t : ℕ) → list-fits-lts.Need-returns-5 (list-fits-calls t) (list-fits-at t) list-fits.Post list-fits-Inv-loop list-fits-μ-loop
 list-fits-returns-5 t c = never
@@ -189,12 +223,12 @@ list-fits-add-c-2 t c =
 list-fits-loop-less : (t : ℕ) → list-fits-lts.Need-loop-less (list-fits-calls t) (list-fits-at t) list-fits.Post list-fits-Inv-loop list-fits-μ-loop
 list-fits-loop-less t c =
     let i = c .before .before in
-    omega (arith, past-run t (c .before .before .before .before .before .before .before .before .before .before) .0, item-known t i .left, item-known t i .some-rows)
+    omega (arith, past-run t (list-fits-at-if2-1 c) .0, item-known t i .left, item-known t i .some-rows)
 
 list-fits-loop-again : (t : ℕ) → list-fits-lts.Need-loop-again (list-fits-calls t) (list-fits-at t) list-fits.Post list-fits-Inv-loop list-fits-μ-loop
 list-fits-loop-again t c =
-    let k = c .before .before .before .before .before .before .before .before in
-    from-first (past-item (item-known t (c .before .before)) (c .before .before .before .before .before .before .before .before .before .before .before .before .before .before .item-kind .ensures) (k .kind .ensures) (c .before .before .before .before .before .before .before .may-be-item .ensures) (not-false _ (c .before .before .before .before .before .before .if4 .left))
+    let k = list-fits-at-if4-1 c .before .before in
+    from-first (past-item (item-known t (c .before .before)) (list-fits-at-item-kind-1 c .item-kind .ensures) (k .kind .ensures) (list-fits-at-if4-1 c .before .may-be-item .ensures) (not-false _ (list-fits-at-if4-1 c .if4 .left))
     (c .before .statement-fits .ensures (not-false _ (c .if7 .left)) (somePairs _) (so-many _)))
 
 list-fits-loop-less-2 : (t : ℕ) → list-fits-lts.Need-loop-less-2 (list-fits-calls t) (list-fits-at t) list-fits.Post list-fits-Inv-loop list-fits-μ-loop
@@ -204,7 +238,7 @@ list-fits-loop-again-2 : (t : ℕ) → list-fits-lts.Need-loop-again-2 (list-fit
 list-fits-loop-again-2 t c = from-first (past-run t (c .before) .1)
 
 list-fits-returns-6 : (t : ℕ) → list-fits-lts.Need-returns-6 (list-fits-calls t) (list-fits-at t) list-fits.Post list-fits-Inv-loop list-fits-μ-loop
-list-fits-returns-6 t c y = right-below-any _ (items-right (list-known t (c .before .before .before .before)) (c .before .loop .inv _ refl) (c .loop-test .left))
+list-fits-returns-6 t c y = right-below-any _ (items-right (list-known t (list-fits-at-if1-1 c)) (c .before .loop .inv _ refl) (c .loop-test .left))
 
 -- ---- a statement
 abbrev statement-fits-Inv-loop : statement-fits-lts.InvT-loop
@@ -227,9 +261,28 @@ Turn-known t c =
     let a = l .before .before .before .before .args in
     Turn (a .rows .now) (somePairs (a .pair-count)) (a .row .0) (l .before .before .size .result) (a .depth) (l .loop .c) (l .loop .d)
 
+-- ---- points of the code that the answers below go back to
+abbrev statement-fits-at-size-1 : {t : ℕ} → statement-fits-lts.Else1 (statement-fits-calls t) (statement-fits-at t) statement-fits.Post statement-fits-Inv-loop statement-fits-μ-loop → statement-fits-lts.After-size (statement-fits-calls t) (statement-fits-at t) statement-fits.Post statement-fits-Inv-loop statement-fits-μ-loop
+statement-fits-at-size-1 c = c .before .before .before .before
+
+abbrev statement-fits-at-loop-1 : {t : ℕ} → statement-fits-lts.Else2 (statement-fits-calls t) (statement-fits-at t) statement-fits.Post statement-fits-Inv-loop statement-fits-μ-loop → statement-fits-lts.At-loop (statement-fits-calls t) (statement-fits-at t) statement-fits.Post statement-fits-Inv-loop statement-fits-μ-loop
+statement-fits-at-loop-1 c = c .before .before .before .before
+
+abbrev statement-fits-at-start-1 : {t : ℕ} → statement-fits-lts.Then3 (statement-fits-calls t) (statement-fits-at t) statement-fits.Post statement-fits-Inv-loop statement-fits-μ-loop → statement-fits-lts.Start (statement-fits-calls t) (statement-fits-at t) statement-fits.Post statement-fits-Inv-loop statement-fits-μ-loop
+statement-fits-at-start-1 c = statement-fits-at-size-1 (c .before .before .before .before .before) .before .before
+
+abbrev statement-fits-at-holding-at-1 : {t : ℕ} → statement-fits-lts.Else5 (statement-fits-calls t) (statement-fits-at t) statement-fits.Post statement-fits-Inv-loop statement-fits-μ-loop → statement-fits-lts.After-holding-at (statement-fits-calls t) (statement-fits-at t) statement-fits.Post statement-fits-Inv-loop statement-fits-μ-loop
+statement-fits-at-holding-at-1 c = c .before .before .before .before
+
+abbrev statement-fits-at-if2-1 : {t : ℕ} → statement-fits-lts.Else4 (statement-fits-calls t) (statement-fits-at t) statement-fits.Post statement-fits-Inv-loop statement-fits-μ-loop → statement-fits-lts.Else2 (statement-fits-calls t) (statement-fits-at t) statement-fits.Post statement-fits-Inv-loop statement-fits-μ-loop
+statement-fits-at-if2-1 c = c .before .before .before .before .before
+
+abbrev statement-fits-at-loop-test-1 : {t : ℕ} → statement-fits-lts.Else5 (statement-fits-calls t) (statement-fits-at t) statement-fits.Post statement-fits-Inv-loop statement-fits-μ-loop → statement-fits-lts.In-loop (statement-fits-calls t) (statement-fits-at t) statement-fits.Post statement-fits-Inv-loop statement-fits-μ-loop
+statement-fits-at-loop-test-1 c = statement-fits-at-holding-at-1 c .before .before .before .before
+
 turn-known : (t : ℕ) (c : statement-fits-lts.Else2 (statement-fits-calls t) (statement-fits-at t) statement-fits.Post statement-fits-Inv-loop statement-fits-μ-loop) → Turn-known t c
 turn-known t c =
-    let l = c .before .before .before .before in
+    let l = statement-fits-at-loop-1 c in
     record {
       start = statement-known t (l .before);
       going = l .loop .inv;
@@ -251,7 +304,7 @@ statement-fits-returns : (t : ℕ) → statement-fits-lts.Need-returns (statemen
 statement-fits-returns t c = never
 
 statement-fits-row-allowed-requires : (t : ℕ) → statement-fits-lts.Need-row-allowed-requires (statement-fits-calls t) (statement-fits-at t) statement-fits.Post statement-fits-Inv-loop statement-fits-μ-loop
-statement-fits-row-allowed-requires t c κs = omega (arith, c .before .before .before .before .before .before .pre .1 .0 .within, c .before .before .before .before .size .ensures, c .before .loop-test .taken)
+statement-fits-row-allowed-requires t c κs = omega (arith, statement-fits-at-size-1 c .before .before .pre .1 .0 .within, statement-fits-at-size-1 c .size .ensures, c .before .loop-test .taken)
 
 statement-fits-returns-2 : (t : ℕ) → statement-fits-lts.Need-returns-2 (statement-fits-calls t) (statement-fits-at t) statement-fits.Post statement-fits-Inv-loop statement-fits-μ-loop
 statement-fits-returns-2 t c = never
@@ -265,22 +318,22 @@ statement-fits-holds-list-requires t c κs = search needs
 statement-fits-list-fits-requires : (t : ℕ) → statement-fits-lts.Need-list-fits-requires (statement-fits-calls t) (statement-fits-at t) statement-fits.Post statement-fits-Inv-loop statement-fits-μ-loop
 statement-fits-list-fits-requires t c κs =
     let h = c .before .before in
-    list-call (turn-known t (c .before .before .before)) (c .before .before .before .before .before .before .before .before .before .before .before .pre .0) (h .holding-at .ensures) (sym (c .before .holds-list .ensures) ∙ c .if3 .taken)
+    list-call (turn-known t (c .before .before .before)) (statement-fits-at-start-1 c .pre .0) (h .holding-at .ensures) (sym (c .before .holds-list .ensures) ∙ c .if3 .taken)
 
 statement-fits-returns-3 : (t : ℕ) → statement-fits-lts.Need-returns-3 (statement-fits-calls t) (statement-fits-at t) statement-fits.Post statement-fits-Inv-loop statement-fits-μ-loop
 statement-fits-returns-3 t c = never
 
 statement-fits-size-requires-2 : (t : ℕ) → statement-fits-lts.Need-size-requires-2 (statement-fits-calls t) (statement-fits-at t) statement-fits.Post statement-fits-Inv-loop statement-fits-μ-loop
-statement-fits-size-requires-2 t c κs = in-rows (turn-known t (c .before .before .before .before .before)) .0
+statement-fits-size-requires-2 t c κs = in-rows (turn-known t (statement-fits-at-if2-1 c)) .0
 
 statement-fits-add-c : (t : ℕ) → statement-fits-lts.Need-add-c (statement-fits-calls t) (statement-fits-at t) statement-fits.Post statement-fits-Inv-loop statement-fits-μ-loop
-statement-fits-add-c t c = omega (arith, in-rows (turn-known t (c .before .before .before .before .before .before)), c .size2 .ensures)
+statement-fits-add-c t c = omega (arith, in-rows (turn-known t (statement-fits-at-if2-1 (c .before))), c .size2 .ensures)
 
 statement-fits-loop-less : (t : ℕ) → statement-fits-lts.Need-loop-less (statement-fits-calls t) (statement-fits-at t) statement-fits.Post statement-fits-Inv-loop statement-fits-μ-loop
-statement-fits-loop-less t c = list-falls (turn-known t (c .before .before .before .before .before .before)) (c .size2 .ensures)
+statement-fits-loop-less t c = list-falls (turn-known t (statement-fits-at-if2-1 (c .before))) (c .size2 .ensures)
 
 statement-fits-loop-again : (t : ℕ) → statement-fits-lts.Need-loop-again (statement-fits-calls t) (statement-fits-at t) statement-fits.Post statement-fits-Inv-loop statement-fits-μ-loop
-statement-fits-loop-again t c = past-list (turn-known t (c .before .before .before .before .before .before)) (c .before .before .list-fits .ensures (not-false _ (c .before .if4 .left)) (somePairs _) (so-many _)) (c .size2 .ensures)
+statement-fits-loop-again t c = past-list (turn-known t (statement-fits-at-if2-1 (c .before))) (c .before .before .list-fits .ensures (not-false _ (c .before .if4 .left)) (somePairs _) (so-many _)) (c .size2 .ensures)
 
 statement-fits-parts-fit-requires : (t : ℕ) → statement-fits-lts.Need-parts-fit-requires (statement-fits-calls t) (statement-fits-at t) statement-fits.Post statement-fits-Inv-loop statement-fits-μ-loop
 statement-fits-parts-fit-requires t c κs = in-rows (turn-known t (c .before .before .before))
@@ -289,17 +342,17 @@ statement-fits-returns-4 : (t : ℕ) → statement-fits-lts.Need-returns-4 (stat
 statement-fits-returns-4 t c = never
 
 statement-fits-add-c-2 : (t : ℕ) → statement-fits-lts.Need-add-c-2 (statement-fits-calls t) (statement-fits-at t) statement-fits.Post statement-fits-Inv-loop statement-fits-μ-loop
-statement-fits-add-c-2 t c = omega (arith, in-rows (turn-known t (c .before .before .before .before .before)))
+statement-fits-add-c-2 t c = omega (arith, in-rows (turn-known t (statement-fits-at-holding-at-1 c .before)))
 
 statement-fits-add-d : (t : ℕ) → statement-fits-lts.Need-add-d (statement-fits-calls t) (statement-fits-at t) statement-fits.Post statement-fits-Inv-loop statement-fits-μ-loop
-statement-fits-add-d t c = omega (arith, c .before .before .before .before .before .before .before .if1 .left)
+statement-fits-add-d t c = omega (arith, statement-fits-at-holding-at-1 c .before .before .before .if1 .left)
 
 statement-fits-loop-less-2 : (t : ℕ) → statement-fits-lts.Need-loop-less-2 (statement-fits-calls t) (statement-fits-at t) statement-fits.Post statement-fits-Inv-loop statement-fits-μ-loop
-statement-fits-loop-less-2 t c = omega (arith, c .before .before .before .before .before .before .before .before .loop-test .taken)
+statement-fits-loop-less-2 t c = omega (arith, statement-fits-at-loop-test-1 c .loop-test .taken)
 
 statement-fits-loop-again-2 : (t : ℕ) → statement-fits-lts.Need-loop-again-2 (statement-fits-calls t) (statement-fits-at t) statement-fits.Post statement-fits-Inv-loop statement-fits-μ-loop
 statement-fits-loop-again-2 t c =
-    past-row (turn-known t (c .before .before .before .before .before)) (c .before .before .before .before .holding-at .ensures) (sym (c .before .before .before .holds-list .ensures) ∙ c .before .before .if3 .left) (c .before .parts-fit .ensures (not-false _ (c .if5 .left)))
+    past-row (turn-known t (statement-fits-at-holding-at-1 c .before)) (statement-fits-at-holding-at-1 c .holding-at .ensures) (sym (c .before .before .before .holds-list .ensures) ∙ c .before .before .if3 .left) (c .before .parts-fit .ensures (not-false _ (c .if5 .left)))
 
 statement-fits-returns-5 : (t : ℕ) → statement-fits-lts.Need-returns-5 (statement-fits-calls t) (statement-fits-at t) statement-fits.Post statement-fits-Inv-loop statement-fits-μ-loop
 statement-fits-returns-5 t c y p e =

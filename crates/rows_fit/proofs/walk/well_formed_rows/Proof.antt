@@ -77,21 +77,25 @@ row-allowed-requires c κs = search needs
 returns : tie.Need-returns
 returns c = never
 
+-- ---- points of the code that the answers below go back to
+abbrev at-start-1 : tie.Else1 → tie.Start
+at-start-1 c = c .before .before .before .before
+
 is-body-requires : tie.Need-is-body-requires
-is-body-requires c κs = let s = c .before .before .before .before in (s .pre .0, root-details (s .args .rows .now) (s .args .pairs .now) (allowed c))
+is-body-requires c κs = let s = at-start-1 c in (s .pre .0, root-details (s .args .rows .now) (s .args .pairs .now) (allowed c))
 
 returns-2 : tie.Need-returns-2
 returns-2 c = never
 
 list-fits-requires : tie.Need-list-fits-requires
 list-fits-requires c κs =
-    let s = c .before .before .before .before .before .before in
+    let s = at-start-1 (c .before .before) in
     root-list (s .args .rows .now) (s .args .pairs .now) (s .pre .0) (allowed (c .before .before)) (a-body c) (s .pre .1)
 
 returns-3 : tie.Need-returns-3
 returns-3 c y =
     let b = c .before in
-    let s = b .before .before .before .before .before .before in
+    let s = at-start-1 (b .before .before) in
     all-right (s .args .rows .now) (s .args .pairs .now) (s .pre .0) (allowed (b .before .before)) (a-body b) (c .list-fits .ensures y _ refl)
 
 pub well-formed-rows-spec : {M : Type 1} → statement M
