@@ -22,9 +22,16 @@ number-of-requires c κs = search needs
 enum-known-m : tie.Need-enum-known-m
 enum-known-m c = search needs
 
+-- ---- points of the code that the answers below go back to
+abbrev at-mark-1 : tie.After-known-told2 → tie.After-mark
+at-mark-1 c = c .before .before .before .before .before .before .before
+
+abbrev at-mark-2 : tie.After-known-told → tie.After-mark
+at-mark-2 c = c .before .before .before .before .before .before .before
+
 placed-word-requires : tie.Need-placed-word-requires
 placed-word-requires c κs =
-    marks-small _ _ _ _ _ _ (sym (ap given (c .before .m .given .1)) ∙ c .before .before .before .before .before .before .before .mark .ensures .0)
+    marks-small _ _ _ _ _ _ (sym (ap given (c .before .m .given .1)) ∙ at-mark-1 c .mark .ensures .0)
 
 verdict-word-requires : tie.Need-verdict-word-requires
 verdict-word-requires c κs = search needs
@@ -38,7 +45,7 @@ same-length-2 c = search needs
 returns : tie.Need-returns
 returns c =
     let k = c .before .before in
-    let e = k .before .before .before .before .before .before .before .mark .ensures in
+    let e = at-mark-2 k .mark .ensures in
     let t = tells-marks _ _ (c .number-of .ensures) (c .before .index-of .ensures) refl refl (sym (ap given (k .before .r .given .1)) ∙ e .0) in
     (t .0, (t .1, (t .2, (t .3, (e .1 .0, e .1 .1)))))
 
@@ -51,7 +58,7 @@ same-length-4 c = search needs
 returns-2 : tie.Need-returns-2
 returns-2 c =
     let k = c .before .before in
-    let e = k .before .before .before .before .before .before .before .mark .ensures in
+    let e = at-mark-1 k .mark .ensures in
     let t = tells-marks _ _ refl refl (c .before .placed-word .ensures) (c .verdict-word .ensures) (sym (ap given (k .before .m .given .1)) ∙ e .0) in
     (t .0, (t .1, (t .2, (t .3, (e .1 .0, e .1 .1)))))
 

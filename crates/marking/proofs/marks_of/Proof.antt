@@ -18,12 +18,22 @@ enum-known-r c = search needs
 enum-known-faults : tie.Need-enum-known-faults
 enum-known-faults c = search needs
 
+-- ---- points of the code that the answers below go back to
+abbrev at-labels-of-1 : tie.After-known-told → tie.After-labels-of
+at-labels-of-1 c = c .before .before .before .before .before .before .before
+
+abbrev at-labels-of-2 : tie.After-known-told2 → tie.After-labels-of
+at-labels-of-2 c = c .before .before .before .before .before .before .before
+
+abbrev at-start-1 : tie.After-known-told2 → tie.Start
+at-start-1 c = at-labels-of-2 c .before .before .before .before .before .before .before .before
+
 placed-requires : tie.Need-placed-requires
-placed-requires c κs = (_, _, body _ _ _ (c .before .before .before .before .before .before .before .before .before .before .before .before .before .before .before .pre))
+placed-requires c κs = (_, _, body _ _ _ (at-start-1 c .pre))
 
 is-terminating-requires : tie.Need-is-terminating-requires
 is-terminating-requires c κs =
-    let f = body _ _ _ (c .before .before .before .before .before .before .before .before .before .before .before .before .before .before .before .before .pre) in
+    let f = body _ _ _ (at-start-1 (c .before) .pre) in
     (f, f .some-rows, rw (f .root-class), sym (label-of-first _))
 
 same-length : tie.Need-same-length
@@ -34,7 +44,7 @@ same-length-2 c = search needs
 
 returns : tie.Need-returns
 returns c =
-    let e = c .before .before .before .before .before .before .before .labels-of .ensures in
+    let e = at-labels-of-1 c .labels-of .ensures in
     (marks-refused _ _ _ _ _ (sym (ap given (c .before .r .given .1)) ∙ e .0), e .1)
 
 same-length-3 : tie.Need-same-length-3
@@ -46,8 +56,8 @@ same-length-4 c = search needs
 returns-2 : tie.Need-returns-2
 returns-2 c =
     let k = c .before .before in
-    let e = k .before .before .before .before .before .before .before .labels-of .ensures in (
-      marks-answered _ _ _ _ _ (k .before .before .before .before .before .before .before .before .before .before .before .before .before .before .before .pre)
+    let e = at-labels-of-2 k .labels-of .ensures in (
+      marks-answered _ _ _ _ _ (at-start-1 k .pre)
           (sym (ap given (k .before .faults .given .1)) ∙ e .0) (c .before .placed .ensures) (c .is-terminating .ensures),
       e .1,
     )

@@ -73,9 +73,22 @@ homed c =
 home-of : (c : tie.Else3) → home-found (c .before) ≡ some (home (c .before))
 home-of c = row-some _ _ (homed (c .before)) (c .if3 .left)
 
+-- ---- points of the code that the answers below go back to
+abbrev at-wide-1 : tie.After-size → tie.After-wide
+at-wide-1 c = c .before .before .before .before
+
+abbrev at-if1-1 : tie.After-shared-slice-known4 → tie.Else1
+at-if1-1 c = c .before .before .before .before
+
+abbrev at-if2-1 : tie.Then3 → tie.Else2
+at-if2-1 c = c .before .before .before .before
+
+abbrev at-size-1 : tie.After-size2 → tie.After-size
+at-size-1 c = c .before .before .before .before
+
 home-row : (c : tie.Else3) → home (c .before) < rowCount (rows (sized (c .before .before .before)))
 home-row c =
-    let k = c .before .before .before .before .before .before in
+    let k = at-if1-1 (c .before .before) in
     omega (arith, list-row k, innermost-found _ (oneOf (caseBlock ∷ [])) (list (k .before)) (home (c .before)) (home-of c) .before)
 
 home-end : (c : tie.After-size2) →
@@ -114,7 +127,7 @@ mul-wide-2 c = omega (arith, list-row (c .before .before .before))
 
 shared-slice-read-wide-2 : tie.Need-shared-slice-read-wide-2
 shared-slice-read-wide-2 c =
-    let k = c .before .before .before .before in
+    let k = at-if1-1 c in
     omega (arith, list-row k, start (k .before) .pre .0 .enough)
 
 wide-requires-2 : tie.Need-wide-requires-2
@@ -122,7 +135,7 @@ wide-requires-2 c κs = search needs
 
 returns-3 : tie.Need-returns-3
 returns-3 c =
-    let k = c .before .before .before .before in
+    let k = at-if2-1 c in
     no-home _ _ _ (list-of (k .before .before)) (is-case k) (row-none _ _ (homed (c .before)) (c .if3 .taken))
 
 sub-block-end : tie.Need-sub-block-end
@@ -136,13 +149,13 @@ size-requires-2 c κs = home-row c
 
 add-block-end : tie.Need-add-block-end
 add-block-end c =
-    let k = sized (c .before .before .before .before) in
+    let k = sized (at-size-1 c) in
     omega (arith, home-end c, start k .pre .0 .formed .2 .sized .within (home (c .before .before)) (home-row (c .before)))
 
 returns-4 : tie.Need-returns-4
 returns-4 c =
     let b = c .before in
-    let s = b .before .before .before .before in
+    let s = at-size-1 b in
     last-case _ _ _ (list-of (s .before .before .before)) (is-case (s .before)) _ (home-of (b .before)) (omega (arith, home-end b, case-end s))
 
 add-only-empty : tie.Need-add-only-empty
@@ -150,14 +163,14 @@ add-only-empty c = search needs
 
 only-empty-requires : tie.Need-only-empty-requires
 only-empty-requires c κs =
-    let s = c .before .before .before .before .before in
-    (start (s .before .before .before .before) .pre .0 .formed .2 .details, case-within s)
+    let s = at-size-1 (c .before) in
+    (start (at-wide-1 s) .pre .0 .formed .2 .details, case-within s)
 
 returns-5 : tie.Need-returns-5
 returns-5 c =
     let b = c .before .before in
-    let s = b .before .before .before .before in
-    let k = s .before .before .before .before in
+    let s = at-size-1 b in
+    let k = at-wide-1 s in
     c .only-empty .ensures ∙ ap (onlyEmpty (rows k) (row k + 1)) (case-end s)
     ∙ by-rest _ _ _ (list-of (s .before .before .before)) (is-case (s .before)) _ (home-of (b .before)) (omega (arith, home-end b, case-end s))
 

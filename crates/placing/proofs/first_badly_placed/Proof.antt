@@ -38,32 +38,48 @@ needs-lists-requires c κs = c .loop-test .taken
 returns : tie.Need-returns Inv-loop μ-loop
 returns c = c .before .needs-lists .ensures .0 (c .if1 .taken)
 
+-- ---- points of the code that the answers below go back to
+abbrev at-start-1 : tie.At-loop Inv-loop μ-loop → tie.Start Inv-loop μ-loop
+at-start-1 c = c .before .before .before .before
+
+abbrev at-loop-test-1 : tie.Else2 Inv-loop μ-loop → tie.In-loop Inv-loop μ-loop
+at-loop-test-1 c = c .before .before .before .before
+
+abbrev at-loop-test-2 : tie.Then2 Inv-loop μ-loop → tie.In-loop Inv-loop μ-loop
+at-loop-test-2 c = c .before .before .before .before
+
+abbrev at-loop-test-3 : tie.After-later-end2 Inv-loop μ-loop → tie.In-loop Inv-loop μ-loop
+at-loop-test-3 c = at-loop-test-1 (c .before .before .before .before .before .before)
+
+abbrev at-start-2 : tie.After-later-end2 Inv-loop μ-loop → tie.Start Inv-loop μ-loop
+at-start-2 c = at-start-1 (at-loop-test-3 c .before)
+
 badly-placed-requires : tie.Need-badly-placed-requires Inv-loop μ-loop
 badly-placed-requires c κs =
     let t = c .before .before in
     let v = t .before .loop .inv in
-    let p = t .before .before .before .before .before .pre in
+    let p = at-start-1 (t .before) .pre in
     ((p .0, λ f. p .1 (c .before .needs-lists .ensures .1 (c .if1 .left) f)), (t .loop-test .taken, (v .1, v .2)))
 
 returns-2 : tie.Need-returns-2 Inv-loop μ-loop
 unfolding placing
 returns-2 c =
-    let l = c .before .before .before .before .before in
-    let s = l .before .before .before .before in
+    let l = at-loop-test-2 c .before in
+    let s = at-start-1 l in
     let w = s .args .rows .now in
-    sym (found-lowest (badlyPlaced w) (rowCount w) (l .loop .r) (omega (arith, whole s, c .before .before .before .before .loop-test .taken))
+    sym (found-lowest (badlyPlaced w) (rowCount w) (l .loop .r) (omega (arith, whole s, at-loop-test-2 c .loop-test .taken))
     (sym (c .before .badly-placed .ensures) ∙ c .if2 .taken) (l .loop .inv .0))
 
 kind-requires : tie.Need-kind-requires Inv-loop μ-loop
-kind-requires c κs = c .before .before .before .before .loop-test .taken
+kind-requires c κs = at-loop-test-1 c .loop-test .taken
 
 size-requires : tie.Need-size-requires Inv-loop μ-loop
-size-requires c κs = c .before .before .before .before .before .loop-test .taken
+size-requires c κs = at-loop-test-1 (c .before) .loop-test .taken
 
 add-end : tie.Need-add-end Inv-loop μ-loop
 add-end c =
-    let l = c .before .before .before .before .before .before .before in
-    omega (arith, c .size .ensures, l .before .before .before .before .pre .0 .2 .sized .within (l .loop .r) (c .before .before .before .before .before .before .loop-test .taken))
+    let l = at-loop-test-1 (c .before .before) .before in
+    omega (arith, c .size .ensures, at-start-1 l .pre .0 .2 .sized .within (l .loop .r) (at-loop-test-1 (c .before .before) .loop-test .taken))
 
 is-breakable-requires : tie.Need-is-breakable-requires Inv-loop μ-loop
 is-breakable-requires c κs = tt
@@ -78,13 +94,13 @@ later-end-requires-2 : tie.Need-later-end-requires-2 Inv-loop μ-loop
 later-end-requires-2 c κs = tt
 
 add-next-that-counts : tie.Need-add-next-that-counts Inv-loop μ-loop
-add-next-that-counts c = omega (arith, c .before .before .before .before .before .before .before .before .before .before .loop-test .taken)
+add-next-that-counts c = omega (arith, at-loop-test-3 c .loop-test .taken)
 
 next-that-counts-requires-2 : tie.Need-next-that-counts-requires-2 Inv-loop μ-loop
-next-that-counts-requires-2 c κs = (c .before .before .before .before .before .before .before .before .before .before .before .before .before .before .before .pre .0 .2 .details, omega (arith, c .before .before .before .before .before .before .before .before .before .before .loop-test .taken), omega arith)
+next-that-counts-requires-2 c κs = (at-start-2 c .pre .0 .2 .details, omega (arith, at-loop-test-3 c .loop-test .taken), omega arith)
 
 loop-less : tie.Need-loop-less Inv-loop μ-loop
-loop-less c = omega (arith, c .before .before .before .before .before .before .before .before .before .before .before .loop-test .taken, c .next-that-counts2 .ensures .low)
+loop-less c = omega (arith, at-loop-test-3 (c .before) .loop-test .taken, c .next-that-counts2 .ensures .low)
 
 loop-again : tie.Need-loop-again Inv-loop μ-loop
 loop-again d =
@@ -92,9 +108,9 @@ loop-again d =
     let b = c .before .before .before in
     let z = b .before in
     let k = z .before in
-    let t = k .before .before .before .before .before in
+    let t = at-loop-test-1 (k .before) in
     let l = t .before in
-    let s = l .before .before .before .before in
+    let s = at-start-1 l in
     let v = l .loop .inv in
     let a = s .pre .0 .2 .details (l .loop .r) (t .loop-test .taken) in
     let e = ap (λ (n : ℕ). l .loop .r + n) (z .size .ensures) in
@@ -110,7 +126,7 @@ returns-3 : tie.Need-returns-3 Inv-loop μ-loop
 unfolding placing
 returns-3 c =
     let l = c .before in
-    let s = l .before .before .before .before in
+    let s = at-start-1 l in
     sym (none-lowest _ _ (λ k h. l .loop .inv .0 k (omega (arith, whole s, c .loop-test .left))))
 
 pub first-badly-placed-spec : {M : Type 1} → statement M

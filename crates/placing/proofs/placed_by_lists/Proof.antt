@@ -19,12 +19,19 @@ lists-of-requires c κs = search needs
 slice-aggregate-first-badly-placed : tie.Need-slice-aggregate-first-badly-placed
 slice-aggregate-first-badly-placed c = search needs
 
+-- ---- points of the code that the answers below go back to
+abbrev at-start-1 : tie.After-lists3 → tie.Start
+at-start-1 c = c .before .before .before .before .before
+
+abbrev at-lists-of-1 : tie.After-enum-told2 → tie.After-lists-of
+at-lists-of-1 c = c .before .before .before .before .before
+
 -- the words that `lists_of` leaves name each row's list
 listed : (c : tie.After-lists3) → FormedLists (now (c .before .before .before .before .before .args .rows)) (c .before .before .lists-of .last .1 .0)
-listed c = record { formed = c .before .before .before .before .before .pre; listed = search needs; enough = search needs }
+listed c = record { formed = at-start-1 c .pre; listed = search needs; enough = search needs }
 
 first-badly-placed-requires : tie.Need-first-badly-placed-requires
-first-badly-placed-requires c κs = (c .before .before .before .before .before .pre, λ _. listed c)
+first-badly-placed-requires c κs = (at-start-1 c .pre, λ _. listed c)
 
 enum-known-r : tie.Need-enum-known-r
 enum-known-r c = search needs
@@ -44,7 +51,7 @@ returns-2 c = subst (Searched _ _) (c .enum-told .given .1) (c .before .before .
 returns-3 : tie.Need-returns-3
 returns-3 c =
     let l = listed (c .before .before .before) in
-    let e : length (c .before .before .before .before .before .lists-of .last .1 .0) ≡ 0 =
+    let e : length (at-lists-of-1 c .lists-of .last .1 .0) ≡ 0 =
     subst (Searched _ _) (c .enum-told2 .given .1) (c .before .before .first-badly-placed .ensures) in
     absurd (omega (arith, l .enough, l .formed .2 .some-rows))
 

@@ -42,15 +42,34 @@ slice-aggregate-marked-text c = search needs
 array-share-prefix-bindings : tie.Need-array-share-prefix-bindings
 array-share-prefix-bindings c = search needs
 
+-- ---- points of the code that the answers below go back to
+abbrev at-bindings2-1 : tie.After-bindings3 → tie.After-bindings2
+at-bindings2-1 c = c .before .before .before .before .before
+
+abbrev at-m-1 : tie.After-marked-text-arg → tie.After-m
+at-m-1 c = c .before .before .before .before
+
+abbrev at-start-1 : tie.After-marked-text-arg → tie.Start
+at-start-1 c = at-bindings2-1 (c .before) .before .before .before .before .before .before .before .before .before
+
+abbrev at-index-of-1 : tie.After-slice-known2 → tie.After-index-of
+at-index-of-1 c = c .before .before .before .before
+
+abbrev at-mark-1 : tie.After-slice-known3 → tie.After-mark
+at-mark-1 c = at-bindings2-1 (c .before .before .before .before) .before .before
+
+abbrev at-mark-2 : tie.After-slice-known2 → tie.After-mark
+at-mark-2 c = at-index-of-1 c .before .before .before .before .before .before .before
+
 slice-aggregate-marked-text-2 : tie.Need-slice-aggregate-marked-text-2
-slice-aggregate-marked-text-2 c = sym (length-take-le _ _ (omega (arith, c .before .before .before .before .before .bindings2 .given)))
+slice-aggregate-marked-text-2 c = sym (length-take-le _ _ (omega (arith, at-bindings2-1 c .bindings2 .given)))
 
 marked-text-requires : tie.Need-marked-text-requires
 marked-text-requires c κs =
-    let m = c .before .before .before .before .before .before .before .before .mark .ensures in
-    let e = sym (ap given (c .before .before .before .before .m .given .1)) ∙ m .0 in (
+    let m = at-bindings2-1 (c .before) .before .before .mark .ensures in
+    let e = sym (ap given (at-m-1 c .m .given .1)) ∙ m .0 in (
       marked-room _ _ _ _ _ (enough _ 16000 2000 (omega arith) (omega arith) (omega arith)) _ _ _ e _ _ (m .1 .0) (m .1 .1),
-      (omega (arith, c .before .before .before .before .before .before .before .sheet2 .given), (omega (arith, length-take (length (c .before .before .before .before .before .before .before .before .before .before .before .before .before .before .before .args .rows .now) / 5) (c .before .before .before .before .before .before .before .before .mark .last .1 .1 .1 .1 .0)), omega arith)),
+      (omega (arith, at-bindings2-1 (c .before) .before .sheet2 .given), (omega (arith, length-take (length (at-start-1 c .args .rows .now) / 5) (at-bindings2-1 (c .before) .before .before .mark .last .1 .1 .1 .1 .0)), omega arith)),
     )
 
 same-length : tie.Need-same-length
@@ -58,10 +77,10 @@ same-length c = search needs
 
 returns : tie.Need-returns
 returns c =
-    let m = c .before .before .before .before .before .before .before .before .before .before .before .mark .ensures in
-    let e = sym (ap given (c .before .before .before .before .before .before .before .r .given .1)) ∙ m .0 in
+    let m = at-mark-2 c .mark .ensures in
+    let e = sym (ap given (at-index-of-1 c .before .before .before .r .given .1)) ∙ m .0 in
     let t = c .before .before .refused-text .ensures in (
-      t .0 ∙ ap (λ n. refusedText n (c .before .before .before .before .index-of .result)) (c .before .before .before .before .before .number-of .ensures) ∙ ap (refusedText _) (c .before .before .before .before .index-of .ensures)
+      t .0 ∙ ap (λ n. refusedText n (at-index-of-1 c .index-of .result)) (at-index-of-1 c .before .number-of .ensures) ∙ ap (refusedText _) (at-index-of-1 c .index-of .ensures)
           ∙ refused-text _ _ _ _ _ (enough _ 16000 2000 (omega arith) (omega arith) (omega arith)) _ _ e,
       t .1,
     )
@@ -71,8 +90,8 @@ same-length-2 c = search needs
 
 returns-2 : tie.Need-returns-2
 returns-2 c =
-    let m = c .before .before .before .before .before .before .before .before .before .before .before .mark .ensures in
-    let e = sym (ap given (c .before .before .before .before .before .before .before .m .given .1)) ∙ m .0 in
+    let m = at-mark-1 c .mark .ensures in
+    let e = sym (ap given (at-m-1 (c .before .before .before) .m .given .1)) ∙ m .0 in
     let t = c .before .before .marked-text .ensures in (
       t .0 ∙ marked-text _ _ _ _ _ (enough _ 16000 2000 (omega arith) (omega arith) (omega arith)) _ _ _ e _ _ (m .1 .0) (m .1 .1),
       t .1,

@@ -21,11 +21,21 @@ verdict-text-requires c κs = search needs
 same-length : tie.Need-same-length
 same-length c = search needs
 
+-- ---- points of the code that the answers below go back to
+abbrev at-placed-text-1 : tie.After-slice-known5 → tie.After-placed-text
+at-placed-text-1 c = c .before .before .before .before .before .before
+
+abbrev at-binds-text-1 : tie.After-slice-known5 → tie.After-binds-text
+at-binds-text-1 c = at-placed-text-1 c .before .before .before .before
+
+abbrev at-sheet-text-1 : tie.After-slice-known5 → tie.After-sheet-text
+at-sheet-text-1 c = at-binds-text-1 c .before .before .before .before
+
 returns : tie.Need-returns
 returns c =
-    let s = c .before .before .before .before .before .before .before .before .before .before .before .before .before .before .sheet-text .ensures in
-    let b = c .before .before .before .before .before .before .before .before .before .before .binds-text .ensures in
-    let p = c .before .before .before .before .before .before .placed-text .ensures in
+    let s = at-sheet-text-1 c .sheet-text .ensures in
+    let b = at-binds-text-1 c .binds-text .ensures in
+    let p = at-placed-text-1 c .placed-text .ensures in
     let v = c .before .before .verdict-text .ensures in
     let w = behind _ _ (behind _ _ (behind _ _ (s .0) (b .0)) (p .0)) (v .0) in
     (w .text, counts _ _ (omega (arith, s .1, b .1, p .1, v .1, w .same-length)))

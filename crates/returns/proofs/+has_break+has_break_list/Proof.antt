@@ -165,14 +165,30 @@ Known-at t c =
     let a = c .before .before .before .before .before .before .before .before .args in
     Known (a .rows .now) (a .pairs .now) (a .bytes .now) t (a .row .0) (c .before .before .before .before .kind .result) (c .before .size .result)
 
+-- ---- points of the code that the answers below go back to
+abbrev has-break-at-start-1 : {t : ℕ} → has-break-lts.Then1 (has-break-calls t) (has-break-at t) has-break.Post → has-break-lts.Start (has-break-calls t) (has-break-at t) has-break.Post
+has-break-at-start-1 c = c .before .before .before .before .before
+
+abbrev has-break-at-start-2 : {t : ℕ} → has-break-lts.After-struct-known (has-break-calls t) (has-break-at t) has-break.Post → has-break-lts.Start (has-break-calls t) (has-break-at t) has-break.Post
+has-break-at-start-2 c = c .before .before .before .before .before .before
+
+abbrev has-break-at-kind-1 : {t : ℕ} → has-break-lts.After-struct-known2 (has-break-calls t) (has-break-at t) has-break.Post → has-break-lts.After-kind (has-break-calls t) (has-break-at t) has-break.Post
+has-break-at-kind-1 c = c .before .before .before .before
+
+abbrev has-break-at-if1-1 : {t : ℕ} → has-break-lts.After-has-break-list2 (has-break-calls t) (has-break-at t) has-break.Post → has-break-lts.Else1 (has-break-calls t) (has-break-at t) has-break.Post
+has-break-at-if1-1 c = c .before .before .before .before .before .before
+
+abbrev has-break-at-struct-known2-1 : {t : ℕ} → has-break-lts.Else3 (has-break-calls t) (has-break-at t) has-break.Post → has-break-lts.After-struct-known2 (has-break-calls t) (has-break-at t) has-break.Post
+has-break-at-struct-known2-1 c = c .before .before .before .before
+
 known : (t : ℕ) (c : has-break-lts.After-struct-known2 (has-break-calls t) (has-break-at t) has-break.Post) → Known-at t c
 known t c =
-    let s = c .before .before .before .before .before .before .before .before in
+    let s = has-break-at-start-2 (c .before .before) in
     record {
       measure = s .pre .0;
       body = s .pre .1 .0;
       row = s .pre .1 .1;
-      kind-is = c .before .before .before .before .kind .ensures;
+      kind-is = has-break-at-kind-1 c .kind .ensures;
       size-is = c .before .size .ensures;
     }
 
@@ -182,17 +198,17 @@ has-break-kind-requires t c κs = search needs
 
 has-break-is-break-requires : (t : ℕ) → has-break-lts.Need-is-break-requires (has-break-calls t) (has-break-at t) has-break.Post
 has-break-is-break-requires t c κs =
-    let s = c .before .before .before .before .before in
+    let s = has-break-at-start-1 c in
     (s .pre .1 .0, s .pre .1 .1, sym (c .before .kind .ensures) ∙ c .if1 .taken)
 
 has-break-returns : (t : ℕ) → has-break-lts.Need-returns (has-break-calls t) (has-break-at t) has-break.Post
 has-break-returns t c =
-    let s = c .before .before .before .before .before .before in
+    let s = has-break-at-start-1 (c .before) in
     at-branch (s .pre .1 .0) _ (s .pre .1 .1) (c .before .before .kind .ensures) (c .before .if1 .taken) _ _ (c .is-break .ensures)
 
 has-break-add-end : (t : ℕ) → has-break-lts.Need-add-end (has-break-calls t) (has-break-at t) has-break.Post
 has-break-add-end t c =
-    let s = c .before .before .before .before .before .before in
+    let s = has-break-at-start-2 c in
     omega (arith, s .pre .1 .0 .most-rows, s .pre .1 .1)
 
 has-break-size-requires : (t : ℕ) → has-break-lts.Need-size-requires (has-break-calls t) (has-break-at t) has-break.Post
@@ -200,7 +216,7 @@ has-break-size-requires t c κs = search needs
 
 has-break-add-end-2 : (t : ℕ) → has-break-lts.Need-add-end-2 (has-break-calls t) (has-break-at t) has-break.Post
 has-break-add-end-2 t c =
-    let s = c .before .before .before .before .before .before .before .before in
+    let s = has-break-at-start-2 (c .before .before) in
     omega (arith, s .pre .1 .0 .most-rows, s .pre .1 .0 .sized .within (s .args .row .0) (s .pre .1 .1), c .before .size .ensures)
 
 has-break-is-breakable-requires : (t : ℕ) → has-break-lts.Need-is-breakable-requires (has-break-calls t) (has-break-at t) has-break.Post
@@ -212,7 +228,7 @@ has-break-returns-2 t c =
     unnamed (known t (i .before .before)) (i .before .is-breakable .ensures) _ _ (i .if2 .taken) (c .if3 .taken)
 
 has-break-has-break-list-requires : (t : ℕ) → has-break-lts.Need-has-break-list-requires (has-break-calls t) (has-break-at t) has-break.Post
-has-break-has-break-list-requires t c κs = below (known t (c .before .before .before .before))
+has-break-has-break-list-requires t c κs = below (known t (has-break-at-struct-known2-1 c))
 
 has-break-returns-3 : (t : ℕ) → has-break-lts.Need-returns-3 (has-break-calls t) (has-break-at t) has-break.Post
 has-break-returns-3 t c =
@@ -226,7 +242,7 @@ has-break-returns-4 : (t : ℕ) → has-break-lts.Need-returns-4 (has-break-call
 has-break-returns-4 t c =
     let i = c .before in
     through (known t (i .before .before)) (i .before .is-breakable .ensures) _ _ (i .if2 .left)
-    (c .before .before .before .before .before .before .if1 .left) (c .has-break-list2 .ensures)
+    (has-break-at-if1-1 c .if1 .left) (c .has-break-list2 .ensures)
 
 -- ---- a list
 abbrev has-break-list-Inv-loop : has-break-list-lts.InvT-loop
@@ -239,16 +255,23 @@ has-break-list-loop-holds :
     (t : ℕ) → has-break-list-lts.Need-loop-holds (has-break-list-calls t) (has-break-list-at t) has-break-list.Post has-break-list-Inv-loop has-break-list-μ-loop
 has-break-list-loop-holds t c = let s = c .before .before .before in begin (s .pre .1 .0) (s .pre .1 .1)
 
+-- ---- points of the code that the answers below go back to
+abbrev has-break-list-at-start-1 : {t : ℕ} → has-break-list-lts.In-loop (has-break-list-calls t) (has-break-list-at t) has-break-list.Post has-break-list-Inv-loop has-break-list-μ-loop → has-break-list-lts.Start (has-break-list-calls t) (has-break-list-at t) has-break-list.Post has-break-list-Inv-loop has-break-list-μ-loop
+has-break-list-at-start-1 c = c .before .before .before .before .before
+
+abbrev has-break-list-at-start-2 : {t : ℕ} → has-break-list-lts.After-loop (has-break-list-calls t) (has-break-list-at t) has-break-list.Post has-break-list-Inv-loop has-break-list-μ-loop → has-break-list-lts.Start (has-break-list-calls t) (has-break-list-at t) has-break-list.Post has-break-list-Inv-loop has-break-list-μ-loop
+has-break-list-at-start-2 c = c .before .before .before .before .before
+
 has-break-list-has-break-requires :
     (t : ℕ) → has-break-list-lts.Need-has-break-requires (has-break-list-calls t) (has-break-list-at t) has-break-list.Post has-break-list-Inv-loop has-break-list-μ-loop
 has-break-list-has-break-requires t c κs =
-    let s = c .before .before .before .before .before in
+    let s = has-break-list-at-start-1 c in
     item (s .pre .1 .0) (c .before .loop .inv) (c .loop-test .taken) _ (s .pre .0)
 
 has-break-list-returns :
     (t : ℕ) → has-break-list-lts.Need-returns (has-break-list-calls t) (has-break-list-at t) has-break-list.Post has-break-list-Inv-loop has-break-list-μ-loop
 has-break-list-returns t c =
-    let s = c .before .before .before .before .before .before .before in
+    let s = has-break-list-at-start-1 (c .before .before) in
     let p = c .before .before in
     found (s .pre .1 .0) (p .before .loop .inv) (p .loop-test .taken) (c .before .has-break .ensures) (c .if1 .taken)
 
@@ -259,7 +282,7 @@ has-break-list-size-requires t c κs = search needs
 has-break-list-add-c :
     (t : ℕ) → has-break-list-lts.Need-add-c (has-break-list-calls t) (has-break-list-at t) has-break-list.Post has-break-list-Inv-loop has-break-list-μ-loop
 has-break-list-add-c t c =
-    let s = c .before .before .before .before .before .before .before .before in
+    let s = has-break-list-at-start-1 (c .before .before .before) in
     let p = c .before .before .before in
     let x = s .pre .1 .0 .sized .within (p .before .loop .c) (row (s .pre .1 .0) (p .before .loop .inv) (p .loop-test .taken)) in
     omega (arith, x, s .pre .1 .0 .most-rows, c .size .ensures)
@@ -267,7 +290,7 @@ has-break-list-add-c t c =
 has-break-list-loop-less :
     (t : ℕ) → has-break-list-lts.Need-loop-less (has-break-list-calls t) (has-break-list-at t) has-break-list.Post has-break-list-Inv-loop has-break-list-μ-loop
 has-break-list-loop-less t c =
-    let s = c .before .before .before .before .before .before .before .before in
+    let s = has-break-list-at-start-1 (c .before .before .before) in
     let p = c .before .before .before in
     let x = s .pre .1 .0 .sized .some-rows (p .before .loop .c) (row (s .pre .1 .0) (p .before .loop .inv) (p .loop-test .taken)) in
     omega (arith, x, c .size .ensures, p .loop-test .taken)
@@ -275,14 +298,14 @@ has-break-list-loop-less t c =
 has-break-list-loop-again :
     (t : ℕ) → has-break-list-lts.Need-loop-again (has-break-list-calls t) (has-break-list-at t) has-break-list.Post has-break-list-Inv-loop has-break-list-μ-loop
 has-break-list-loop-again t c =
-    let s = c .before .before .before .before .before .before .before .before in
+    let s = has-break-list-at-start-1 (c .before .before .before) in
     let p = c .before .before .before in
     next (s .pre .1 .0) (p .before .loop .inv) (p .loop-test .taken) (c .before .before .has-break .ensures) (c .before .if1 .left) (c .size .ensures)
 
 has-break-list-returns-2 :
     (t : ℕ) → has-break-list-lts.Need-returns-2 (has-break-list-calls t) (has-break-list-at t) has-break-list.Post has-break-list-Inv-loop has-break-list-μ-loop
 has-break-list-returns-2 t c =
-    let s = c .before .before .before .before .before in
+    let s = has-break-list-at-start-2 c in
     ended (s .pre .1 .0) (c .before .loop .inv) (c .loop-test .left)
 
 pub +has-break+has-break-list-spec : {M : Type 1} → statement M

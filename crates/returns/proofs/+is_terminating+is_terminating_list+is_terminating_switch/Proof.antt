@@ -162,9 +162,19 @@ Known-at t c =
     let a = c .before .before .before .before .before .before .before .args in
     Known (a .rows .now) (a .pairs .now) (a .bytes .now) t (a .row .0) (a .label .0) (c .before .before .before .kind .result) (c .before .size .result)
 
+-- ---- points of the code that the answers below go back to
+abbrev is-terminating-at-start-1 : {t : ℕ} → is-terminating-lts.After-struct-known (is-terminating-calls t) (is-terminating-at t) is-terminating.Post → is-terminating-lts.Start (is-terminating-calls t) (is-terminating-at t) is-terminating.Post
+is-terminating-at-start-1 c = c .before .before .before .before .before
+
+abbrev is-terminating-at-if1-1 : {t : ℕ} → is-terminating-lts.After-struct-known3 (is-terminating-calls t) (is-terminating-at t) is-terminating.Post → is-terminating-lts.Else1 (is-terminating-calls t) (is-terminating-at t) is-terminating.Post
+is-terminating-at-if1-1 c = c .before .before .before .before
+
+abbrev is-terminating-at-is-terminating2-1 : {t : ℕ} → is-terminating-lts.After-is-terminating3 (is-terminating-calls t) (is-terminating-at t) is-terminating.Post → is-terminating-lts.After-is-terminating2 (is-terminating-calls t) (is-terminating-at t) is-terminating.Post
+is-terminating-at-is-terminating2-1 c = c .before .before .before .before
+
 known : (t : ℕ) (c : is-terminating-lts.After-struct-known2 (is-terminating-calls t) (is-terminating-at t) is-terminating.Post) → Known-at t c
 known t c =
-    let s = c .before .before .before .before .before .before .before in
+    let s = is-terminating-at-start-1 (c .before .before) in
     record {
       measure = s .pre .0;
       body = s .pre .1 .0;
@@ -182,10 +192,23 @@ Opened-at t c =
     let a = c .before .before .before .before .before .before .args in
     Opened (a .rows .now) (a .pairs .now) (a .bytes .now) t (a .row .0) (a .label .0) (c .before .before .size .result) (a .found)
 
+-- ---- points of the code that the answers below go back to
+abbrev is-terminating-switch-at-start-1 : {t : ℕ} → is-terminating-switch-lts.After-struct-known (is-terminating-switch-calls t) (is-terminating-switch-at t) is-terminating-switch.Post is-terminating-switch-Inv-loop is-terminating-switch-μ-loop → is-terminating-switch-lts.Start (is-terminating-switch-calls t) (is-terminating-switch-at t) is-terminating-switch.Post is-terminating-switch-Inv-loop is-terminating-switch-μ-loop
+is-terminating-switch-at-start-1 c = c .before .before .before .before .before
+
+abbrev is-terminating-switch-at-size2-1 : {t : ℕ} → is-terminating-switch-lts.Else2 (is-terminating-switch-calls t) (is-terminating-switch-at t) is-terminating-switch.Post is-terminating-switch-Inv-loop is-terminating-switch-μ-loop → is-terminating-switch-lts.After-size2 (is-terminating-switch-calls t) (is-terminating-switch-at t) is-terminating-switch.Post is-terminating-switch-Inv-loop is-terminating-switch-μ-loop
+is-terminating-switch-at-size2-1 c = c .before .before .before .before
+
+abbrev is-terminating-switch-at-size2-2 : {t : ℕ} → is-terminating-switch-lts.Then2 (is-terminating-switch-calls t) (is-terminating-switch-at t) is-terminating-switch.Post is-terminating-switch-Inv-loop is-terminating-switch-μ-loop → is-terminating-switch-lts.After-size2 (is-terminating-switch-calls t) (is-terminating-switch-at t) is-terminating-switch.Post is-terminating-switch-Inv-loop is-terminating-switch-μ-loop
+is-terminating-switch-at-size2-2 c = c .before .before .before .before
+
+abbrev is-terminating-switch-at-if1-1 : {t : ℕ} → is-terminating-switch-lts.Else3 (is-terminating-switch-calls t) (is-terminating-switch-at t) is-terminating-switch.Post is-terminating-switch-Inv-loop is-terminating-switch-μ-loop → is-terminating-switch-lts.Joined1 (is-terminating-switch-calls t) (is-terminating-switch-at t) is-terminating-switch.Post is-terminating-switch-Inv-loop is-terminating-switch-μ-loop
+is-terminating-switch-at-if1-1 c = c .before .before .before .before
+
 opened : (t : ℕ) (c : is-terminating-switch-lts.After-struct-known2 (is-terminating-switch-calls t)
     (is-terminating-switch-at t) is-terminating-switch.Post is-terminating-switch-Inv-loop is-terminating-switch-μ-loop) → Opened-at t c
 opened t c =
-    let s = c .before .before .before .before .before .before in
+    let s = is-terminating-switch-at-start-1 (c .before) in
     record {
       measure = s .pre .0;
       body = s .pre .1 .0;
@@ -201,14 +224,14 @@ is-terminating-kind-requires : (t : ℕ) → is-terminating-lts.Need-kind-requir
 is-terminating-kind-requires t c κs = search needs
 
 is-terminating-add-end : (t : ℕ) → is-terminating-lts.Need-add-end (is-terminating-calls t) (is-terminating-at t) is-terminating.Post
-is-terminating-add-end t c = let s = c .before .before .before .before .before in omega (arith, s .pre .1 .0 .most-rows, s .pre .1 .1)
+is-terminating-add-end t c = let s = is-terminating-at-start-1 c in omega (arith, s .pre .1 .0 .most-rows, s .pre .1 .1)
 
 is-terminating-size-requires : (t : ℕ) → is-terminating-lts.Need-size-requires (is-terminating-calls t) (is-terminating-at t) is-terminating.Post
 is-terminating-size-requires t c κs = search needs
 
 is-terminating-add-end-2 : (t : ℕ) → is-terminating-lts.Need-add-end-2 (is-terminating-calls t) (is-terminating-at t) is-terminating.Post
 is-terminating-add-end-2 t c =
-    let s = c .before .before .before .before .before .before .before in
+    let s = is-terminating-at-start-1 (c .before .before) in
     omega (arith, s .pre .1 .0 .most-rows, s .pre .1 .0 .sized .within (s .args .row .0) (s .pre .1 .1), c .before .size .ensures)
 
 is-terminating-name-requires : (t : ℕ) → is-terminating-lts.Need-name-requires (is-terminating-calls t) (is-terminating-at t) is-terminating.Post
@@ -259,7 +282,7 @@ is-terminating-size-requires-2 t c κs =
 
 is-terminating-add-t20 : (t : ℕ) → is-terminating-lts.Need-add-t20 (is-terminating-calls t) (is-terminating-at t) is-terminating.Post
 is-terminating-add-t20 t c =
-    let i = c .before .before .before .before in
+    let i = is-terminating-at-if1-1 c in
     let m = i .before .before in
     let call = else-call (known t (m .before)) (m .match .keys6) (i .before .detail3 .ensures) (i .if1 .left) (c .before .size2 .ensures) in
     omega (arith, known t (m .before) .body .most-rows, call .1 .1)
@@ -267,7 +290,7 @@ is-terminating-add-t20 t c =
 is-terminating-is-terminating-requires-3 :
     (t : ℕ) → is-terminating-lts.Need-is-terminating-requires-3 (is-terminating-calls t) (is-terminating-at t) is-terminating.Post
 is-terminating-is-terminating-requires-3 t c κs =
-    let i = c .before .before .before .before in
+    let i = is-terminating-at-if1-1 c in
     let m = i .before .before in
     else-call (known t (m .before)) (m .match .keys6) (i .before .detail3 .ensures) (i .if1 .left) (c .before .size2 .ensures)
 
@@ -313,10 +336,10 @@ is-terminating-returns-8 t c = let m = c .before in list-answer (known t (m .bef
 
 is-terminating-returns-9 : (t : ℕ) → is-terminating-lts.Need-returns-9 (is-terminating-calls t) (is-terminating-at t) is-terminating.Post
 is-terminating-returns-9 t c =
-    let i = c .before .before .before .before .before in
+    let i = is-terminating-at-if1-1 (c .before) in
     let m = i .before .before in
     both-parts (known t (m .before)) (m .match .keys6) (i .before .detail3 .ensures) (i .if1 .left)
-    (c .before .before .before .before .is-terminating2 .ensures) (not-false _ (c .before .before .before .if2 .left))
+    (is-terminating-at-is-terminating2-1 c .is-terminating2 .ensures) (not-false _ (c .before .before .before .if2 .left))
     (c .before .before .size2 .ensures) (c .is-terminating3 .ensures)
 
 is-terminating-returns-10 : (t : ℕ) → is-terminating-lts.Need-returns-10 (is-terminating-calls t) (is-terminating-at t) is-terminating.Post
@@ -348,10 +371,20 @@ is-terminating-list-enum-known-last :
     (t : ℕ) → is-terminating-list-lts.Need-enum-known-last (is-terminating-list-calls t) (is-terminating-list-at t) is-terminating-list.Post
 is-terminating-list-enum-known-last t c = search needs
 
+-- ---- points of the code that the answers below go back to
+abbrev is-terminating-list-at-start-1 : {t : ℕ} → is-terminating-list-lts.After-enum-told (is-terminating-list-calls t) (is-terminating-list-at t) is-terminating-list.Post → is-terminating-list-lts.Start (is-terminating-list-calls t) (is-terminating-list-at t) is-terminating-list.Post
+is-terminating-list-at-start-1 c = c .before .before .before .before .before .before
+
+abbrev is-terminating-list-at-start-2 : {t : ℕ} → is-terminating-list-lts.After-known-told (is-terminating-list-calls t) (is-terminating-list-at t) is-terminating-list.Post → is-terminating-list-lts.Start (is-terminating-list-calls t) (is-terminating-list-at t) is-terminating-list.Post
+is-terminating-list-at-start-2 c = c .before .before .before .before .before .before .before
+
+abbrev is-terminating-list-at-last-item-1 : {t : ℕ} → is-terminating-list-lts.After-is-terminating (is-terminating-list-calls t) (is-terminating-list-at t) is-terminating-list.Post → is-terminating-list-lts.After-last-item (is-terminating-list-calls t) (is-terminating-list-at t) is-terminating-list.Post
+is-terminating-list-at-last-item-1 c = c .before .before .before .before
+
 is-terminating-list-is-terminating-requires :
     (t : ℕ) → is-terminating-list-lts.Need-is-terminating-requires (is-terminating-list-calls t) (is-terminating-list-at t) is-terminating-list.Post
 is-terminating-list-is-terminating-requires t c κs =
-    let s = c .before .before .before .before .before .before .before in
+    let s = is-terminating-list-at-start-2 c in
     let found = subst (Lasts _ _ _) (c .before .last .given .1) (c .before .before .before .last-item .ensures) in
     last-call (s .pre .1 .0) (s .pre .0) (s .pre .1 .1) (s .pre .1 .2) (s .pre .1 .3) found
 
@@ -362,14 +395,14 @@ is-terminating-list-enum-told t c = search needs
 is-terminating-list-returns :
     (t : ℕ) → is-terminating-list-lts.Need-returns (is-terminating-list-calls t) (is-terminating-list-at t) is-terminating-list.Post
 is-terminating-list-returns t c =
-    let s = c .before .before .before .before .before .before .before .before in
-    let found = subst (Lasts _ _ _) (c .before .before .last .given .1) (c .before .before .before .before .last-item .ensures) in
+    let s = is-terminating-list-at-start-2 (c .before) in
+    let found = subst (Lasts _ _ _) (c .before .before .last .given .1) (is-terminating-list-at-last-item-1 c .last-item .ensures) in
     last-answer (s .pre .1 .0) (s .pre .1 .1) found (c .is-terminating .ensures)
 
 is-terminating-list-returns-2 :
     (t : ℕ) → is-terminating-list-lts.Need-returns-2 (is-terminating-list-calls t) (is-terminating-list-at t) is-terminating-list.Post
 is-terminating-list-returns-2 t c =
-    let s = c .before .before .before .before .before .before in
+    let s = is-terminating-list-at-start-1 c in
     let none = subst (Lasts _ _ _) (c .enum-told .given .1) (c .before .before .last-item .ensures) in
     sym (list-empty (s .pre .1 .0) _ _ (s .pre .1 .1) none)
 
@@ -387,7 +420,7 @@ is-terminating-switch-add-end : (t : ℕ) → is-terminating-switch-lts.Need-add
     is-terminating-switch-Inv-loop
     is-terminating-switch-μ-loop
 is-terminating-switch-add-end t c =
-    let s = c .before .before .before .before .before in
+    let s = is-terminating-switch-at-start-1 c in
     omega (arith, s .pre .1 .0 .most-rows, s .pre .1 .0 .sized .within (s .args .row .0) (s .pre .1 .1), c .before .size .ensures)
 
 is-terminating-switch-add-c : (t : ℕ) → is-terminating-switch-lts.Need-add-c (is-terminating-switch-calls t)
@@ -395,7 +428,7 @@ is-terminating-switch-add-c : (t : ℕ) → is-terminating-switch-lts.Need-add-c
     is-terminating-switch.Post
     is-terminating-switch-Inv-loop
     is-terminating-switch-μ-loop
-is-terminating-switch-add-c t c = let s = c .before .before .before .before .before .before in omega (arith, s .pre .1 .0 .most-rows, s .pre .1 .1)
+is-terminating-switch-add-c t c = let s = is-terminating-switch-at-start-1 (c .before) in omega (arith, s .pre .1 .0 .most-rows, s .pre .1 .1)
 
 is-terminating-switch-loop-holds : (t : ℕ) → is-terminating-switch-lts.Need-loop-holds (is-terminating-switch-calls t)
     (is-terminating-switch-at t)
@@ -456,8 +489,8 @@ is-terminating-switch-returns : (t : ℕ) → is-terminating-switch-lts.Need-ret
     is-terminating-switch-Inv-loop
     is-terminating-switch-μ-loop
 is-terminating-switch-returns t c =
-    let l = c .before .before .before .before .before in
-    is-open (opened t (l .before .before)) (l .before .loop .inv) (l .loop-test .taken) (c .before .before .before .before .size2 .ensures)
+    let l = is-terminating-switch-at-size2-2 c .before in
+    is-open (opened t (l .before .before)) (l .before .loop .inv) (l .loop-test .taken) (is-terminating-switch-at-size2-2 c .size2 .ensures)
     (c .before .is-terminating-list .ensures) (not-true _ (c .if2 .taken))
 
 is-terminating-switch-has-break-list-requires :
@@ -467,8 +500,8 @@ is-terminating-switch-has-break-list-requires :
     is-terminating-switch-Inv-loop
     is-terminating-switch-μ-loop
 is-terminating-switch-has-break-list-requires t c κs =
-    let l = c .before .before .before .before .before in
-    let call = clause-call (opened t (l .before .before)) (l .before .loop .inv) (l .loop-test .taken) (c .before .before .before .before .size2 .ensures) in
+    let l = is-terminating-switch-at-size2-1 c .before in
+    let call = clause-call (opened t (l .before .before)) (l .before .loop .inv) (l .loop-test .taken) (is-terminating-switch-at-size2-1 c .size2 .ensures) in
     (call .1 .0, call .1 .1)
 
 is-terminating-switch-returns-2 : (t : ℕ) → is-terminating-switch-lts.Need-returns-2 (is-terminating-switch-calls t)
@@ -477,8 +510,8 @@ is-terminating-switch-returns-2 : (t : ℕ) → is-terminating-switch-lts.Need-r
     is-terminating-switch-Inv-loop
     is-terminating-switch-μ-loop
 is-terminating-switch-returns-2 t c =
-    let l = c .before .before .before .before .before .before .before in
-    is-left (opened t (l .before .before)) (l .before .loop .inv) (l .loop-test .taken) (c .before .before .before .before .before .before .size2 .ensures)
+    let l = is-terminating-switch-at-size2-1 (c .before .before) .before in
+    is-left (opened t (l .before .before)) (l .before .loop .inv) (l .loop-test .taken) (is-terminating-switch-at-size2-1 (c .before .before) .size2 .ensures)
     (c .before .has-break-list .ensures) (c .if3 .taken)
 
 is-terminating-switch-loop-less : (t : ℕ) → is-terminating-switch-lts.Need-loop-less (is-terminating-switch-calls t)
@@ -487,10 +520,10 @@ is-terminating-switch-loop-less : (t : ℕ) → is-terminating-switch-lts.Need-l
     is-terminating-switch-Inv-loop
     is-terminating-switch-μ-loop
 is-terminating-switch-loop-less t c =
-    let l = c .before .before .before .before .before .before .before in
+    let l = is-terminating-switch-at-size2-1 (c .before .before) .before in
     let row = clause-row (opened t (l .before .before)) (l .before .loop .inv) (l .loop-test .taken) in
     let some = opened t (l .before .before) .body .sized .some-rows (l .before .loop .c) row in
-    omega (arith, some, c .before .before .before .before .before .before .size2 .ensures, l .loop-test .taken)
+    omega (arith, some, is-terminating-switch-at-size2-1 (c .before .before) .size2 .ensures, l .loop-test .taken)
 
 is-terminating-switch-loop-again : (t : ℕ) → is-terminating-switch-lts.Need-loop-again (is-terminating-switch-calls t)
     (is-terminating-switch-at t)
@@ -498,13 +531,13 @@ is-terminating-switch-loop-again : (t : ℕ) → is-terminating-switch-lts.Need-
     is-terminating-switch-Inv-loop
     is-terminating-switch-μ-loop
 is-terminating-switch-loop-again t c =
-    let l = c .before .before .before .before .before .before .before in
-    let d = c .before .before .before .before .before .detail .ensures in
+    let l = is-terminating-switch-at-size2-1 (c .before .before) .before in
+    let d = is-terminating-switch-at-if1-1 c .before .detail .ensures in
     let default = ⊎-elim
     (λ x. default-here (opened t (l .before .before)) (l .before .loop .inv) (l .loop-test .taken) d (x .0 .taken) (x .1))
     (λ x. default-before (opened t (l .before .before)) (l .before .loop .inv) (l .loop-test .taken) d (x .0 .left) (x .1))
-    (c .before .before .before .before .if1 .came) in
-    next (opened t (l .before .before)) (l .before .loop .inv) (l .loop-test .taken) (c .before .before .before .before .before .before .size2 .ensures)
+    (is-terminating-switch-at-if1-1 c .if1 .came) in
+    next (opened t (l .before .before)) (l .before .loop .inv) (l .loop-test .taken) (is-terminating-switch-at-size2-1 (c .before .before) .size2 .ensures)
     (c .before .before .before .is-terminating-list .ensures) (not-false _ (c .before .before .if2 .left))
     (c .before .has-break-list .ensures) (c .if3 .left) default
 

@@ -56,8 +56,15 @@ module _ (s : tie.Start) {d : ℕ} (q : d ≡ detail (s .args .rows .now) (s .ar
 detail-requires : tie.Need-detail-requires
 detail-requires c κs = search needs
 
+-- ---- points of the code that the answers below go back to
+abbrev at-start-1 : tie.Else1 → tie.Start
+at-start-1 c = c .before .before .before .before .before
+
+abbrev at-start-2 : tie.Then1 → tie.Start
+at-start-2 c = c .before .before .before .before .before
+
 returns : tie.Need-returns
-returns c = other (c .before .before .before .before .before) (c .before .detail .ensures) (c .if1 .taken)
+returns c = other (at-start-2 c) (c .before .detail .ensures) (c .if1 .taken)
 
 name-requires : tie.Need-name-requires
 name-requires c κs = search needs
@@ -65,13 +72,13 @@ name-requires c κs = search needs
 returns-2 : tie.Need-returns-2
 returns-2 c =
     let i = c .before .before .before in
-    plain (i .before .before .before .before .before) (i .before .detail .ensures) (i .if1 .left) (c .before .before .name .ensures) (c .if2 .taken)
+    plain (at-start-1 i) (i .before .detail .ensures) (i .if1 .left) (c .before .before .name .ensures) (c .if2 .taken)
 
 returns-3 : tie.Need-returns-3
 returns-3 c =
     let n = c .before .before in
     let i = n .before .before .before in
-    unnamed (i .before .before .before .before .before) (i .before .detail .ensures) (i .if1 .left) (n .before .before .name .ensures) (n .if2 .left)
+    unnamed (at-start-1 i) (i .before .detail .ensures) (i .if1 .left) (n .before .before .name .ensures) (n .if2 .left)
     (c .if3 .taken)
 
 same-name-requires : tie.Need-same-name-requires
@@ -81,7 +88,7 @@ returns-4 : tie.Need-returns-4
 returns-4 c =
     let n = c .before .before .before in
     let i = n .before .before .before in
-    named (i .before .before .before .before .before) (i .before .detail .ensures) (i .if1 .left) (n .before .before .name .ensures) (n .if2 .left)
+    named (at-start-1 i) (i .before .detail .ensures) (i .if1 .left) (n .before .before .name .ensures) (n .if2 .left)
     (c .before .if3 .left) (c .same-name .ensures)
 
 pub is-break-spec : {M : Type 1} → statement M
