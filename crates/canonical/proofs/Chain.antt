@@ -47,7 +47,8 @@ module _ (p b : List ℕ) (slots s n : ℕ) where
   other-hash i f = other-name p b (suc i) (suc n) (λ e. f (ap hash e))
 
   pub chain-start : (m : ℕ) → m ≡ word (highest (inSlot p b slots s) n) → Chain p b slots s n m
-  chain-start m e = record { k = n; within = omega arith; most = omega (arith, e, word-within (inSlot p b slots s) n); latest = e; passed = λ i l h. absurd (omega arith) }
+  chain-start m e =
+      record { k = n; within = omega arith; most = omega (arith, e, word-within (inSlot p b slots s) n); latest = e; passed = λ i l h. absurd (omega arith) }
 
   stop : (m k : ℕ) → m ≡ word (highest (inSlot p b slots s) k) → 0 < m → Stop p b slots s m k
   stop m k e z = case-found (highest (inSlot p b slots s) k)
@@ -96,7 +97,8 @@ module _ (p b : List ℕ) (slots s n : ℕ) where
               k = q .j;
               within = omega arith;
               most = omega (arith, chain-falls, c .most);
-              latest = ap (λ (x : ℕ). getD next-in-slot x 0) (q .name) ∙ lk .next-at (q .j) h ∙ ap (λ (x : ℕ). word (highest (inSlot p b slots x) (q .j))) (q .slot);
+              latest = ap (λ (x : ℕ). getD next-in-slot x 0) (q .name) ∙ lk .next-at (q .j) h
+                  ∙ ap (λ (x : ℕ). word (highest (inSlot p b slots x) (q .j))) (q .slot);
               passed = λ i l y. elim (ℕ-discrete i (q .j)) [
                 | yes e ↦ rw e g
                 | no o ↦

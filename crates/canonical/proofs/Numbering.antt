@@ -62,7 +62,13 @@ numbering-start p b s y j g t r z = record {
   room = r;
   heads = λ i l. z i;
   linked =
-      record { names-ok = t; upto = omega arith; next-at = λ i l. absurd (omega arith); key-at = λ i l. absurd (omega arith); first-at = λ i l. absurd (omega arith) };
+      record {
+        names-ok = t;
+        upto = omega arith;
+        next-at = λ i l. absurd (omega arith);
+        key-at = λ i l. absurd (omega arith);
+        first-at = λ i l. absurd (omega arith);
+      };
   none = refl;
   kept = λ i l. refl;
 }

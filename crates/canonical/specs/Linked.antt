@@ -1,4 +1,5 @@
--- The tables once the first n names are numbered. The names of a slot are linked: `heads` leads from the slot to the latest of them, `next-in-slot` from each to the one before it.
+-- The tables once the first n names are numbered. The names of a slot are linked: `heads` leads from the slot to the latest of them, `next-in-slot`
+-- from each to the one before it.
 -- Assumes nothing.
 use mathlib.Core.Path.{_≡_}
 use mathlib.Core.Bool.{Bool, true}

@@ -40,6 +40,7 @@ abbrev pub toldMarks : ℕ → ℕ → Answer (ℕ × Option ℕ × Bool) → �
 toldMarks placing verdict (refused n i) = (n, i, placing, verdict)
 toldMarks placing verdict (answered m) = (0, m .0, placedWord (m .1), verdictWord (m .2))
 
--- where a name's bytes start and how many they are: the pair's offset and length; 0 and 0 for number 0, for a number past the last pair, and where 2 or 3 refuses
+-- where a name's bytes start and how many they are: the pair's offset and length; 0 and 0 for number 0, for a number past the last pair, and where 2
+-- or 3 refuses
 unfoldable pub toldName : List ℕ → List ℕ → ℕ → ℕ × ℕ
 toldName p b n = elim (namesOk p b && (ltb 0 n && leb n (pairCount p))) [ true ↦ (offset p (n - 1), len p (n - 1)) | false ↦ (0, 0) ]

@@ -46,7 +46,8 @@ use Rattle.goscript.specs.Syntax.{through, list, ident}
 use Rattle.goscript.specs.Block.{Block, new as newBlock, goto-target, enclosing-target}
 use Rattle.goscript.specs.Context.{new as newContext, record-var-decl, with-jumps, with-lstmt}
 use Rattle.goscript.specs.Checker.{Checker, error}
-use Rattle.goscript.specs.Label.{State, in-checker, in-ctx, append, outgoing, afterLabeled, declare, resolveAll, valid, recordLabelUse, labelledBreak, gotoBranch, labelled, block-branches, stmt-branches}
+use Rattle.goscript.specs.Label.{State, in-checker, in-ctx, append, outgoing, afterLabeled, declare, resolveAll, valid, recordLabelUse, labelledBreak}
+use Rattle.goscript.specs.Label.{gotoBranch, labelled, block-branches, stmt-branches}
 use Rattle.goscript.proofs.OneBlock.{hasBlock}
 
 -- rows that change nothing; clauses
@@ -178,9 +179,11 @@ module _ (build : Build) (w p b : List ℕ) where
     at-fallthrough e = rw (e, stmt-branches)
 
     pub at-block : isBlock (class w s) ≡ true
-        → stmt-branches build w p b (suc f) s state ≡ append state (block-branches build w p b f (state .blocks) (state .ctx .lstmt) (list w s) (state .checker))
+        → stmt-branches build w p b (suc f) s state ≡ append state
+        (block-branches build w p b f (state .blocks) (state .ctx .lstmt) (list w s) (state .checker))
     unfolding stmt-branches
-    at-block t = by-one _ (block ∷ caseBlock ∷ commBlock ∷ []) (class w s) t (λ e. rw (e, stmt-branches)) (λ e. rw (e, stmt-branches)) (λ e. rw (e, stmt-branches))
+    at-block t =
+        by-one _ (block ∷ caseBlock ∷ commBlock ∷ []) (class w s) t (λ e. rw (e, stmt-branches)) (λ e. rw (e, stmt-branches)) (λ e. rw (e, stmt-branches))
 
     pub at-clause : isClause (class w s) ≡ true
         → stmt-branches build w p b (suc f) s state ≡ append state (block-branches build w p b f (state .blocks) none (list w s) (state .checker))

@@ -133,7 +133,8 @@ module _ {w p b : List ℕ} (body : Body w p b) where
         (λ t. absurd (clash (cc))) y
 
     -- a fallthrough with a label
-    pub fallthrough-labelled : (c : Checker) → class w x ≡ fallthrough → 0 < name w x → CheckerAt w p b x c → CheckerAt w p b (suc x) (error (fault w 6 x ∷ []) c)
+    pub fallthrough-labelled : (c : Checker) → class w x ≡ fallthrough → 0 < name w x → CheckerAt w p b x c
+        → CheckerAt w p b (suc x) (error (fault w 6 x ∷ []) c)
     fallthrough-labelled c k z y =
         let n = branch-label w p b x (branch-fallthrough (class w x) k) in
         let m = other-labelled w p b x (rw k) in
@@ -192,7 +193,8 @@ module _ {w p b : List ℕ} (body : Body w p b) where
       -- a goto
       module _ (k : class w x ≡ goto) where
         goto-report : report w p b x ≡ []
-        goto-report = report-other w p b x (branch-label w p b x (branch-goto (class w x) k)) (other-labelled w p b x (rw k)) (λ y. clash (cc (y .falls-through)))
+        goto-report =
+            report-other w p b x (branch-label w p b x (branch-goto (class w x) k)) (other-labelled w p b x (rw k)) (λ y. clash (cc (y .falls-through)))
 
         pub goto-bound : (s : State) (d : ℕ) → earlier w p b x ≡ some d → CheckerAt w p b x (s .checker)
             → CheckerAt w p b (suc x) (recordLabelUse w p b x s .checker)

@@ -22,5 +22,7 @@ use Rattle.goscript.specs.Label.{
 use Rattle.goscript.specs.Domains.{namesEnded, noneNamesEnded, carriesLabel, holdsLabel, noneLabelled}
 
 unfoldable pub computed : Type 0
-unfolding rulesComputed any all filter findLast through contains items list ident lookup is-terminating verdict insert search goto-target enclosing-target place usedBy bound declare resolve resolveAll recordLabelUse labelledBreak gotoBranch block-branches leftJump unusedLabel labels sheet bindings namesEnded noneNamesEnded carriesLabel holdsLabel noneLabelled
+unfolding rulesComputed any all filter findLast through contains items list ident lookup is-terminating verdict insert search goto-target enclosing-target
+    place usedBy bound declare resolve resolveAll recordLabelUse labelledBreak gotoBranch block-branches leftJump unusedLabel labels sheet bindings namesEnded
+    noneNamesEnded carriesLabel holdsLabel noneLabelled
 computed = Unit {0}

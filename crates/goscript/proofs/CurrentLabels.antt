@@ -30,7 +30,8 @@ use Rattle.goscript.proofs.Stacked.{reaches, Stacked}
 
 module _ (w p b : List ℕ) where
   -- ---- the innermost block is asked first
-  top-found : (n : List ℕ) (block : Block) (parents : List Block) (t : ℕ) → named w p b n (block .lstmt) ≡ some t → enclosing-target w p b n (block ∷ parents) ≡ some t
+  top-found : (n : List ℕ) (block : Block) (parents : List Block) (t : ℕ) → named w p b n (block .lstmt) ≡ some t
+      → enclosing-target w p b n (block ∷ parents) ≡ some t
   unfolding enclosing-target search
   top-found n block parents t e = rw (e, search)
 
@@ -56,14 +57,16 @@ module _ (w p b : List ℕ) where
 
   -- further on, with the same found in the blocks
   pub adds-kept : (l x y : ℕ) (blocks blocks′ : List Block) (lstmt : Option ℕ) → x ≤ y
-      → ((n : List ℕ) → enclosing-target w p b n blocks′ ≡ enclosing-target w p b n blocks) → AddsNothing w p b l x blocks lstmt → AddsNothing w p b l y blocks′ lstmt
+      → ((n : List ℕ) → enclosing-target w p b n blocks′ ≡ enclosing-target w p b n blocks) → AddsNothing w p b l x blocks lstmt
+      → AddsNothing w p b l y blocks′ lstmt
   adds-kept l x y blocks blocks′ lstmt h same a g i m t = case-found (named w p b (ident w p b g) lstmt)
       (λ s e. top-found (ident w p b g) (new lstmt) blocks′ s e ∙ sym (top-found (ident w p b g) (new lstmt) blocks s e)
       ∙ a g (omega arith) m t ∙ sym (same (ident w p b g)))
       (λ e. top-skipped (ident w p b g) (new lstmt) blocks′ e)
 
   -- and so with any label
-  pub finds-kept : (x : ℕ) (blocks blocks′ : List Block) (lstmt : Option ℕ) → ((n : List ℕ) → enclosing-target w p b n blocks′ ≡ enclosing-target w p b n blocks)
+  pub finds-kept : (x : ℕ) (blocks blocks′ : List Block) (lstmt : Option ℕ)
+      → ((n : List ℕ) → enclosing-target w p b n blocks′ ≡ enclosing-target w p b n blocks)
       → Finds w p b x blocks lstmt → Finds w p b x blocks′ lstmt
   finds-kept x blocks blocks′ lstmt same f g h m t = case-found (named w p b (ident w p b g) lstmt)
       (λ s e. top-found (ident w p b g) (new lstmt) blocks′ s e ∙ sym (top-found (ident w p b g) (new lstmt) blocks s e) ∙ f g h m t)
@@ -109,7 +112,8 @@ module _ {w p b : List ℕ} (body : Body w p b) {l i x : ℕ} (row : l < rowCoun
   outer g h m v = at-list .targets g (omega (arith, st .after, st .upto)) (omega (arith, within)) v
 
   -- no label but `_` stands on it
-  pub finds-unlabelled : (lstmt : Option ℕ) → ((k : ℕ) → i ≤ k → k < x → isLabel w p b k ≡ false) → AddsNothing w p b l x blocks lstmt → Finds w p b x blocks lstmt
+  pub finds-unlabelled : (lstmt : Option ℕ) → ((k : ℕ) → i ≤ k → k < x → isLabel w p b k ≡ false) → AddsNothing w p b l x blocks lstmt
+      → Finds w p b x blocks lstmt
   finds-unlabelled lstmt n a g h m v =
       a g (omega arith) (omega (arith, within)) v
       ∙ outer g h m v

@@ -31,7 +31,8 @@ use Rattle.goscript.specs.Context.{Context, record-var-decl, with-jumps}
 use Rattle.goscript.specs.Checker.{error}
 use Rattle.goscript.specs.Label.{State, in-checker, in-ctx, valid, recordLabelUse, labelledBreak, gotoBranch, labelled, stmt-branches}
 use Rattle.goscript.proofs.Walking.{CheckerAt, ContextAt, At}
-use Rattle.goscript.proofs.CheckerRows.{breakCode, quiet-row, fallthrough-labelled, unlabelled, break-invalid, break-valid, goto-bound, goto-waits, uses-blocks, uses-ctx}
+use Rattle.goscript.proofs.CheckerRows.{breakCode, quiet-row, fallthrough-labelled, unlabelled, break-invalid, break-valid, goto-bound, goto-waits}
+use Rattle.goscript.proofs.CheckerRows.{uses-blocks, uses-ctx}
 use Rattle.goscript.proofs.ContextRows.{context-same, context-declares, context-waits}
 use Rattle.goscript.proofs.BlockRows.{visible-earlier, blocks-same}
 use Rattle.goscript.proofs.Stacked.{Stacked, target-is}

@@ -51,7 +51,8 @@ module _ (w p b : List ℕ) where
 statement-home : (q c : Class) → holdsItems q ≡ true → isStatement c ≡ true → fits q c ≡ true → isList q ≡ true
 unfolding every lowest
 statement-home q c t u v =
-    implied (holdsItems q && (isStatement c && fits q c)) (isList q) (of-classes (λ q c. implies (holdsItems q && (isStatement c && fits q c)) (isList q)) refl q c) (rw (t, u, v))
+    implied (holdsItems q && (isStatement c && fits q c)) (isList q)
+    (of-classes (λ q c. implies (holdsItems q && (isStatement c && fits q c)) (isList q)) refl q c) (rw (t, u, v))
 
 module _ {w p b : List ℕ} (body : Body w p b) {l x : ℕ} {s : State} (home : l < rowCount w) (row : x < rowCount w) where
   pub stands : Position w p b l x s → (l < x) × (x < end w l)

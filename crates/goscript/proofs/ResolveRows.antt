@@ -104,7 +104,8 @@ module _ (w p b : List ℕ) (s : ℕ) (ctx : Context) where
     other-step n e f r = record {
       all-same = r .all-same;
       defs-same = r .defs-same;
-      errors-are = r .errors-are ∙ ap (λ (l : List Fault). c .errors ++ l) (sym (each-suc reported n ∙ rw (reports-not w p b s ctx Q n f) (append-nil (each reported n))));
+      errors-are = r .errors-are
+          ∙ ap (λ (l : List Fault). c .errors ++ l) (sym (each-suc reported n ∙ rw (reports-not w p b s ctx Q n f) (append-nil (each reported n))));
       taken-use = λ g h t. r .taken-use g (other-below g h t) t;
       other-use = λ g h. r .other-use g (λ l. h (omega arith));
       label-used = λ g h t. r .label-used g (other-below g h t) t;

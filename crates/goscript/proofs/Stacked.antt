@@ -123,7 +123,8 @@ module _ {w p b : List ℕ} (body : Body w p b) {l i g : ℕ} (row : l < rowCoun
           let in-rows : r < rowCount w = omega arith in
           let t = clause-parent (class w r) (class w l) (rw (lists, f)) (body .child-fits r l in-rows c) in
           let reach : g < end w r = omega (arith, body .child-within r l in-rows c, st .inside) in
-          let ends : (q : ℕ) → r < q → q < l → end w q ≤ l = λ q a m. ends-before (body .sized) (body .child-within) (body .sized .within r in-rows) c q a m in (
+          let ends : (q : ℕ) → r < q → q < l → end w q ≤ l =
+          λ q a m. ends-before (body .sized) (body .child-within) (body .sized .within r in-rows) c q a m in (
             r,
             record {
               block = found-innermost w isBlock g r (record { before = omega (arith, st .after, st .upto); reaches = reach; passes = t })

@@ -39,8 +39,10 @@ module _ (build : Build) {w p b : List ℕ} (body : Body w p b) (domain : Domain
       by (quiet t) = quiet-walked build body l x row s (suc f) t a
       by (declares e) = let (i, n) = in-list (rw e) position in declaration-walked build body l x row s (suc f) e (its-list body home row n (rw e)) a
       by (labels e) = label-walked build body domain l x s home row position a (suc f) few calls e
-      by (breaks e) = let (i, n) = in-list (rw e) position in breaks-walked build body l x row s (suc f) home (home-list body home row n (rw e)) (n .stacked) a e
-      by (continues e) = let (i, n) = in-list (rw e) position in continues-walked build body l x row s (suc f) home (home-list body home row n (rw e)) (n .stacked) a e
+      by (breaks e) =
+          let (i, n) = in-list (rw e) position in breaks-walked build body l x row s (suc f) home (home-list body home row n (rw e)) (n .stacked) a e
+      by (continues e) =
+          let (i, n) = in-list (rw e) position in continues-walked build body l x row s (suc f) home (home-list body home row n (rw e)) (n .stacked) a e
       by (goes e) = let (h, m) = stands body home row position in goto-walked build body l x row s (suc f) e h m a
       by (falls e) = fallthrough-walked build body l x row s (suc f) e a
       by (nests t) = block-walked build body domain l x s home row position a f fewer calls t

@@ -51,7 +51,8 @@ module _ {build : Build} {w p b : List ℕ} (body : Body w p b) (domain : Domain
   ]
 
   -- ---- the items of the list l
-  module _ (f l : ℕ) (home : l < rowCount w) (holds : holdsItems (class w l) ≡ true) (few : size w l + size w l ≤ suc (suc f)) (statements : Statements build w p b f) where
+  module _ (f l : ℕ) (home : l < rowCount w) (holds : holdsItems (class w l) ≡ true) (few : size w l + size w l ≤ suc (suc f))
+      (statements : Statements build w p b f) where
     abbrev walk : List ℕ → State → State
     walk = through (λ x s. stmt-branches build w p b f x s)
 
@@ -81,7 +82,8 @@ module _ {build : Build} {w p b : List ℕ} (body : Body w p b) (domain : Domain
 
     -- ---- the list as a whole
     pub list-walked : (lstmt : Option ℕ) (parent : List Block) (checker : Checker) (o : Outgoing)
-        → o ≡ block-branches build w p b (suc f) parent lstmt (list w l) checker → CheckerAt w p b (suc l) checker → BlocksAt w p b l (suc l) (new lstmt ∷ parent)
+        → o ≡ block-branches build w p b (suc f) parent lstmt (list w l) checker → CheckerAt w p b (suc l) checker
+        → BlocksAt w p b l (suc l) (new lstmt ∷ parent)
         → CheckerAt w p b (end w l) (o .checker) × (o .fwd-jumps ≡ jumpsAt w p b l (end w l))
     list-walked lstmt parent checker o e c a =
         let s : State = record { checker = checker; blocks = new lstmt ∷ parent; ctx = newContext lstmt } in

@@ -148,7 +148,8 @@ module _ (build : Build) {w p b : List ℕ} (body : Body w p b) (domain : Domain
         let d = statements l y s1 home in-rows (omega (arith, from, reach)) there at1 in
         (d, still (d .current) is-part)
       where
-        still : Leaves build w p b y s1 (stmt-branches build w p b f y s1) → isPart (class w y) ≡ true → stmt-branches build w p b f y s1 .ctx .lstmt ≡ s .ctx .lstmt
+        still : Leaves build w p b y s1 (stmt-branches build w p b f y s1) → isPart (class w y) ≡ true
+            → stmt-branches build w p b f y s1 .ctx .lstmt ≡ s .ctx .lstmt
         still (kept i) v = i ∙ e
         still (left c q r i u h m) v = absurd (part-unlabeled (class w y) v c)
 
@@ -164,7 +165,8 @@ module _ (build : Build) {w p b : List ℕ} (body : Body w p b) (domain : Domain
         let s1 = stmt-branches build w p b f (suc x) s in
         let (d, i) = part-walked (suc x) s (rw c) (here h) refl (λ n. refl) (passed w x o body l s a) in
         let (d2, i2) = part-walked (end w (suc x)) s1 (rw c) (item-next (here h) m) i (d .targets-kept) (d .state) in
-        rw (at-else build w p b f x s c) (record { state = rw (← e) (d2 .state); targets-kept = λ n. d2 .targets-kept n ∙ d .targets-kept n; current = kept i2 })
+        rw (at-else build w p b f x s c)
+        (record { state = rw (← e) (d2 .state); targets-kept = λ n. d2 .targets-kept n ∙ d .targets-kept n; current = kept i2 })
 
   -- ---- a label and its statement
   module _ (f : ℕ) (statements : Statements build w p b f) (few : size w x + size w x ≤ suc f) (c : class w x ≡ labeled) where
@@ -181,7 +183,8 @@ module _ (build : Build) {w p b : List ℕ} (body : Body w p b) (domain : Domain
         let d = statements l (suc x) s1 home (omega (arith, body .sized .within x row)) (omega arith) there at1 in
         let at-end : At w p b l (end w x) s2 = rw (← e) (d .state) in
         by-place (build .A)
-        (λ q. rw (stays build (s .ctx .lstmt) s2 q) (record { state = at-end; targets-kept = λ n. d .targets-kept n ∙ same n; current = left-or-kept q (d .current) before }))
+        (λ q. rw (stays build (s .ctx .lstmt) s2 q)
+        (record { state = at-end; targets-kept = λ n. d .targets-kept n ∙ same n; current = left-or-kept q (d .current) before }))
         (λ q. rw (put-back build (s .ctx .lstmt) s2 q) (record {
           state = record { checker = at-end .checker; ctx = context-lstmt l (end w x) (s2 .ctx) (s .ctx .lstmt) (at-end .ctx); blocks = at-end .blocks };
           targets-kept = λ n. d .targets-kept n ∙ same n;
@@ -191,7 +194,8 @@ module _ (build : Build) {w p b : List ℕ} (body : Body w p b) (domain : Domain
         s2 : State
         s2 = stmt-branches build w p b f (suc x) s1
 
-        left-or-kept : build .A ≡ original → Leaves build w p b (suc x) s1 s2 → (s1 .ctx .lstmt ≡ s .ctx .lstmt) ⊎ ((isLabel w p b x ≡ true) × (s1 .ctx .lstmt ≡ some x))
+        left-or-kept : build .A ≡ original → Leaves build w p b (suc x) s1 s2
+            → (s1 .ctx .lstmt ≡ s .ctx .lstmt) ⊎ ((isLabel w p b x ≡ true) × (s1 .ctx .lstmt ≡ some x))
             → Leaves build w p b x s s2
         left-or-kept q (kept i) (inl j) = kept (i ∙ j)
         left-or-kept q (kept i) (inr (v, j)) = left c q x (i ∙ j) v row (omega arith)
@@ -205,7 +209,8 @@ module _ (build : Build) {w p b : List ℕ} (body : Body w p b) (domain : Domain
         (λ t.
         let v = blank-label w p b x t in
         rw (at-blank build w p b f x s c t)
-        (labeled-walked s (item i (record { stacked = st; holds = n .holds; fit = n .fit; on-item = further i v (n .on-item) })) (blank-passed v) (λ m. refl) (inl refl)))
+        (labeled-walked s (item i (record { stacked = st; holds = n .holds; fit = n .fit; on-item = further i v (n .on-item) })) (blank-passed v) (λ m. refl)
+        (inl refl)))
         (λ t.
         let v : isLabel w p b x ≡ true = label-is w p b x (record { row = omega arith; labels = c; not-blank = t }) in
         let listed = its-list body home row n (rw c) in

@@ -102,7 +102,8 @@ module _ (w p b : List ℕ) where
     | false ↦ c
     | true ↦ elim (jumps-over-var-decl ctx x) [
       | false ↦ record-use x s (label-set-used s c)
-      | true ↦ error (record { code = 3; position = position w x; name = name w x; other = varDecl (ctx .var-decl-pos) } ∷ []) (record-use x s (label-set-used s c))
+      | true ↦ error (record { code = 3; position = position w x; name = name w x; other = varDecl (ctx .var-decl-pos) } ∷ [])
+          (record-use x s (label-set-used s c))
     ]
   ]
 

@@ -7,7 +7,8 @@ use Prim.Native.Nat.{ℕ, zero, suc, _+_}
 use lib.Dec.{eqb}
 use Rattle.rules.specs.Rows.{name, size, end}
 use Rattle.rules.specs.Names.{sameBytes}
-use Rattle.rules.specs.Class.{plain, declaration, empty, labeled, stop, break, continue, goto, fallthrough, block, caseBlock, commBlock, if, ifElse, case, defaultCase, comm, defaultComm, switch, typeSwitch, select, for, forCond, oneOf, class}
+use Rattle.rules.specs.Class.{plain, declaration, empty, labeled, stop, break, continue, goto, fallthrough, block, caseBlock, commBlock, if, ifElse, case}
+use Rattle.rules.specs.Class.{defaultCase, comm, defaultComm, switch, typeSwitch, select, for, forCond, oneOf, class}
 use Rattle.goscript.specs.Build.{original, mended, Build}
 use Rattle.goscript.specs.Syntax.{any, all, findLast, list, ident}
 

@@ -1,4 +1,5 @@
--- The definitions of crate `goscript` answer as goscript's own files did, body by body, in both builds: computed over the whole list, and then said of each body of it.
+-- The definitions of crate `goscript` answer as goscript's own files did, body by body, in both builds: computed over the whole list, and then said
+-- of each body of it.
 -- Assumes nothing.
 use mathlib.Core.Path.{_≡_, refl, sym, ap, _∙_}
 use mathlib.Core.Bool.{Bool, true, false, _&&_}
@@ -42,8 +43,11 @@ gives build w p b a e =
     let bound = sameBytes (bindings build w p b) (a .bindings) in
     let judged = sameVerdict (verdict build w p b) (a .verdict) in
     let x = and-true words (bound && judged) e in
-    let y = and-true bound judged (x .1) in
-    (same-equal (faultWords (sheet build w p b)) (a .sheet) (x .0), same-equal (bindings build w p b) (a .bindings) (y .0), same-verdict (verdict build w p b) (a .verdict) (y .1))
+    let y = and-true bound judged (x .1) in (
+      same-equal (faultWords (sheet build w p b)) (a .sheet) (x .0),
+      same-equal (bindings build w p b) (a .bindings) (y .0),
+      same-verdict (verdict build w p b) (a .verdict) (y .1),
+    )
 
 abbrev Agrees : Case → Type 0
 Agrees c = Gives stock (c .rows) (c .pairs) (c .bytes) (c .stock) × Gives mendedBuild (c .rows) (c .pairs) (c .bytes) (c .mended)

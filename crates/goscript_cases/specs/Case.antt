@@ -40,4 +40,5 @@ answers build w p b a = sameBytes (faultWords (sheet build w p b)) (a .sheet)
 
 unfoldable pub allAnswer : List Case → Bool
 allAnswer [] = true
-allAnswer (c ∷ cs) = (answers stock (c .rows) (c .pairs) (c .bytes) (c .stock) && answers mendedBuild (c .rows) (c .pairs) (c .bytes) (c .mended)) && allAnswer cs
+allAnswer (c ∷ cs) =
+    (answers stock (c .rows) (c .pairs) (c .bytes) (c .stock) && answers mendedBuild (c .rows) (c .pairs) (c .bytes) (c .mended)) && allAnswer cs

@@ -282,7 +282,8 @@ module _ {w p b : List ℕ} (body : Body w p b) where
               | no n ↦ elim (ℕ-discrete s j) [
                 | yes z ↦ x .statement (rw z cj)
                 | no o ↦
-                    let ends = chain t s (omega arith) (omega (arith, x .after)) (λ q h i. elim (ℕ-discrete t q) [ yes z ↦ rw z at c | no r ↦ x .run q (omega arith) i ]) in
+                    let ends = chain t s (omega arith) (omega (arith, x .after))
+                    (λ q h i. elim (ℕ-discrete t q) [ yes z ↦ rw z at c | no r ↦ x .run q (omega arith) i ]) in
                     let (q, y, h, i, r) = labeled-list (suc j) j s (omega arith) (omega arith) cj (x .statement) (omega arith) (omega (arith, ends .0)) in
                     no-list-between q y (omega (arith, x .after)) (omega arith) (omega (arith, body .nested q j (omega arith) i r))
               ]
@@ -359,7 +360,8 @@ module _ {w p b : List ℕ} (body : Body w p b) where
               run = run;
               last = λ j h m. case-of (isLabel w p b j)
                   (λ u.
-                  let ends = chain t j (omega arith) (omega arith) (λ q i o. elim (ℕ-discrete t q) [ yes z ↦ rw z at c | no r ↦ run q (omega arith) (omega arith) ]) in
+                  let ends = chain t j (omega arith) (omega arith)
+                  (λ q i o. elim (ℕ-discrete t q) [ yes z ↦ rw z at c | no r ↦ run q (omega arith) (omega arith) ]) in
                   absurd (x .last j h (omega arith) u (omega (arith, ends .0, x .reaches))))
                   (λ u. u);
             }))
@@ -378,7 +380,8 @@ module _ {w p b : List ℕ} (body : Body w p b) where
       (λ v.
       let clauses = block-other (class w j) (rw (u, v)) in
       let (d, i, h, n) = child-around (body .sized) j k (omega arith) m reach in
-      let both = and-true (isList (class w d)) (not (isBlock (class w d))) (clause-list (class w j) (class w d) clauses (body .child-fits j d (omega arith) i)) in
+      let both = and-true (isList (class w d)) (not (isBlock (class w d)))
+      (clause-list (class w j) (class w d) clauses (body .child-fits j d (omega arith) i)) in
       let from = item-from i in
       elim (ℕ-discrete d k) [
         | yes z ↦ let y : isBlock (class w k) ≡ false = rw z at (not-true (isBlock (class w d)) (both .1)) in clash (cc)

@@ -182,7 +182,8 @@ lent-zeros {w} {p} body m n s t h k blank =
     }
 
 pub lent-large : {w p b : List ℕ} → Body w p b → (s t : List ℕ) → Blank w s t
-    → Lent w p (replicate 501 0) (replicate 501 0) (replicate 2000 0) s t (replicate 501 0) (replicate 2000 0) (replicate 2000 0) (replicate 2000 0) (replicate 501 0)
+    → Lent w p (replicate 501 0) (replicate 501 0) (replicate 2000 0) s t (replicate 501 0) (replicate 2000 0) (replicate 2000 0) (replicate 2000 0)
+    (replicate 501 0)
 lent-large body s t = lent-zeros body 501 2000 s t (omega (arith, pair-most body)) (body .most-rows)
 
 pub cleared-blank : (w s t t′ : List ℕ) → rowCount w * 8 ≤ length s → rowCount w ≤ length t → Cleared (rowCount w) t t′ → Blank w s t′
@@ -230,7 +231,8 @@ module _ (w p b s t : List ℕ) where
         let k = length-take-le (rowCount w) t′ (omega (arith, x .bindings-length)) in (
           ap (λ (m : ℕ). answered m) (y .count) ∙ c .0,
           (
-            is-written (faultWords (sheetOf w p b)) s s′ (n * 4) (omega (arith, y .count, words-length (sheetOf w p b))) (y .reported) (y .sheet-kept) ∙ c .1 .0,
+            is-written (faultWords (sheetOf w p b)) s s′ (n * 4) (omega (arith, y .count, words-length (sheetOf w p b))) (y .reported) (y .sheet-kept)
+                ∙ c .1 .0,
             is-written (bindingsOf w p b) t t′ (rowCount w) (sym k ∙ ap length (x .bound)) (x .bound) (x .bindings-kept) ∙ c .1 .1,
           ),
         )

@@ -1,5 +1,6 @@
 -- The end of the sheet. A branch uses a declared label when its word is the label's, or when it is a goto that is pending at the end with that label declared;
--- either way the label has the branch's name, so that one entry of the table of canonical numbers is concerned. Faults have room since each pending goto keeps some.
+-- either way the label has the branch's name, so that one entry of the table of canonical numbers is concerned. Faults have room since each pending
+-- goto keeps some.
 -- Assumes nothing.
 use mathlib.Core.Path.{_≡_, refl, sym, _∙_, ap}
 use mathlib.Core.Bool.{Bool, true, false, _&&_, not}
@@ -138,7 +139,8 @@ module _ {w p b : List ℕ} (body : Body w p b) where
       sym (is-declared-for body c d e .3) ∙ labels-canon body g d h l n .1
 
   -- ---- the table, one row further
-  pub table-same : (g : ℕ) (u : List ℕ) → UsedBefore w p b g u → ((c d : ℕ) → declaredFor w p b c ≡ some d → uses w p b d g ≡ false) → UsedBefore w p b (suc g) u
+  pub table-same : (g : ℕ) (u : List ℕ) → UsedBefore w p b g u → ((c d : ℕ) → declaredFor w p b c ≡ some d → uses w p b d g ≡ false)
+      → UsedBefore w p b (suc g) u
   table-same g u t n c d z h e = t c d z h e ∙ ap not (sym (before-no w p b d g (n c d e)))
 
   pub table-set : (g c e : ℕ) (u : List ℕ) → UsedBefore w p b g u → g < rowCount w → c ≡ rowCanon w p b g → c < length u
@@ -209,7 +211,8 @@ module _ (w p b : List ℕ) where
   left-one r f e = rw (left-suc r, e)
 
   -- no more gotos are reported than are pending
-  left-more : (r : ℕ) → length (leftAt w p b (suc r)) + howMany (pending w p b (rowCount w)) r ≤ length (leftAt w p b r) + howMany (pending w p b (rowCount w)) (suc r)
+  left-more : (r : ℕ) → length (leftAt w p b (suc r)) + howMany (pending w p b (rowCount w)) r ≤ length (leftAt w p b r) + howMany
+      (pending w p b (rowCount w)) (suc r)
   left-more r = case-of (pending w p b (rowCount w) r)
       (λ q. case-found (declared w p b r)
       (λ d e. one (fault w 7 r) q (unresolved-declared w p b r d q e))
@@ -233,7 +236,8 @@ module _ {w p b : List ℕ} (body : Body w p b) where
   canon-fits ct g h = omega (arith, ct .room, name-within body g h)
 
   -- the room that is kept for the pending gotos
-  pub all-room : length (faultsAt w p b (rowCount w)) + howMany (pending w p b (rowCount w)) (rowCount w) + howMany (isDeclared w p b) (rowCount w) ≤ 2 * rowCount w
+  pub all-room : length (faultsAt w p b (rowCount w)) + howMany (pending w p b (rowCount w)) (rowCount w) + howMany (isDeclared w p b)
+      (rowCount w) ≤ 2 * rowCount w
   all-room = omega (arith, room w p b (rowCount w))
 
   left-fits : (r : ℕ) → r < rowCount w → pending w p b (rowCount w) r ≡ true → length (leftAt w p b r) + 1 ≤ 2 * rowCount w

@@ -82,7 +82,8 @@ module _ {w p b : List ℕ} (body : Body w p b) (s : List ℕ) (all : UnusedTo w
   ahead (suc j) l = ranks-rise body s all sorted j (suc j) (omega arith) l
 
   -- up to a rank k below those of the names that are left there is no fault more
-  gap : (j k : ℕ) → j ≤ length s → upTo p b s j ≤ k → ((i : ℕ) → j ≤ i → i < length s → k < rank p b (getD s i 0)) → ninesTo w p b k ≡ ninesTo w p b (upTo p b s j)
+  gap : (j k : ℕ) → j ≤ length s → upTo p b s j ≤ k → ((i : ℕ) → j ≤ i → i < length s → k < rank p b (getD s i 0))
+      → ninesTo w p b k ≡ ninesTo w p b (upTo p b s j)
   gap j k h l left = nines-gap w p b (upTo p b s j) k l (λ r a m. elim (in-list body s all r) [
     | inl e ↦ e
     | inr (i, n, e) ↦ elim (decLt i j) [
@@ -135,7 +136,8 @@ pub nines-start : (w p b s : List ℕ) (at : ℕ) (t : List ℕ) → Reported at
 unfolding upTo
 nines-start w p b s at t x = (omega arith, rw (nines-zero w p b) x)
 
-pub nines-all : {w p b : List ℕ} (s : List ℕ) (j at : ℕ) (t₀ t : List ℕ) → Body w p b → Sorted p b s → UnusedTo w p b (pairCount p) s → length s ≤ j → Nines w p b s j at t₀ t
+pub nines-all : {w p b : List ℕ} (s : List ℕ) (j at : ℕ) (t₀ t : List ℕ) → Body w p b → Sorted p b s → UnusedTo w p b (pairCount p) s → length s ≤ j
+    → Nines w p b s j at t₀ t
     → Reported at (sheetOf w p b) t₀ t
 nines-all {w} {p} {b} s j at t₀ t body sorted all h (l, x) =
     let e : j ≡ length s = omega arith in
@@ -154,7 +156,8 @@ pub record AtName (w p b ds s t₀ t : List ℕ) (j at c d : ℕ) : Type 0 where
   pub state : Nines w p b s j at t₀ t
 
 -- a name of the list is within the table
-pub name-within-table : {w p b ds : List ℕ} (s : List ℕ) (j : ℕ) → Body w p b → DeclaredTable w p b ds → UnusedTo w p b (pairCount p) s → j < length s → getD s j 0 < length ds
+pub name-within-table : {w p b ds : List ℕ} (s : List ℕ) (j : ℕ) → Body w p b → DeclaredTable w p b ds → UnusedTo w p b (pairCount p) s → j < length s
+    → getD s j 0 < length ds
 name-within-table {w} {p} {b} {ds} s j body by-canon all h =
     let (d, e, u) = is-unused w p b (getD s j 0) (element body s all j h) in
     omega (arith, label-for body (getD s j 0) d e .within, by-canon .room)
@@ -174,7 +177,8 @@ module _ {w p b ds s t₀ t : List ℕ} {j at c d : ℕ} (n : AtName w p b ds s 
   label-row = let (e, f, u, i) = label in omega (arith, label-for (n .body) (getD s j 0) e f .row)
 
   longer : at + 1 ≤ 2 * rowCount w
-  longer = omega (arith, n .more, n .state .1 .count, nines-length (n .body) s (n .all) (n .sorted) j (n .state .0), nines-room (n .body) s (n .all) (n .sorted))
+  longer =
+      omega (arith, n .more, n .state .1 .count, nines-length (n .body) s (n .all) (n .sorted) j (n .state .0), nines-room (n .body) s (n .all) (n .sorted))
 
   pub fault-small : at + 1 ≤ 4000
   fault-small = omega (arith, longer, n .body .most-rows)

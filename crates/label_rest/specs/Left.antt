@@ -1,4 +1,5 @@
--- The state of the last pass over the rows when it stands at row r: the gotos before r that are pending at the end, and the labels that the branches before r use.
+-- The state of the last pass over the rows when it stands at row r: the gotos before r that are pending at the end, and the labels that the branches
+-- before r use.
 -- Assumes nothing.
 use mathlib.Core.Path.{_≡_}
 use mathlib.Core.Bool.{Bool, _&&_, _||_, not}

@@ -51,7 +51,12 @@ module _ {w p b : List ℕ} (body : Body w p b) where
       elim (ℕ-discrete (suc q) c) [
         | yes i ↦ rw (← i) (one .1)
         | no n ↦
-            absurd (omega (arith, one .1, item-before d, ends-before (body .sized) (body .child-within) (body .sized .within q h) d (suc q) (omega arith) (omega arith)))
+            absurd (omega (
+              arith,
+              one .1,
+              item-before d,
+              ends-before (body .sized) (body .child-within) (body .sized .within q h) d (suc q) (omega arith) (omega arith),
+            ))
       ]
 
   -- the label t, in the list l, stands in the statement of the label s after l: c is t or a label above it, n bounds the steps

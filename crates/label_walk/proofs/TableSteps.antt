@@ -64,7 +64,8 @@ module _ {w p b ls d m : List ℕ} {x : ℕ} (t : Listing w p b ls (suc x)) (h :
         rw (declared-row, add-one x) (latest-decls-set w p b x d (list - 1) declares (j .is-list) (omega arith) (contexts .latest-decls-are))
 
 -- ---- a Labeled row; n is its canonical number
-module _ {w p b cs ds ls d m : List ℕ} {x : ℕ} (t : Tables w p b cs ds ls (suc x)) (h : x < rowCount w) (c : class w x ≡ labeled) (contexts : Contexts w p b x d m)
+module _ {w p b cs ds ls d m : List ℕ} {x : ℕ} (t : Tables w p b cs ds ls (suc x)) (h : x < rowCount w) (c : class w x ≡ labeled)
+    (contexts : Contexts w p b x d m)
     (n : ℕ) (en : n ≡ getD cs (name w x) 0) where
   pub blank : n ≡ 0 → isLabel w p b x ≡ false
   blank z = case-of (isLabel w p b x)
@@ -96,7 +97,8 @@ module _ {w p b cs ds ls d m : List ℕ} {x : ℕ} (t : Tables w p b cs ds ls (s
       label-latest i =
           let j = label-in in
           let before = j .before in
-          ap (λ (y : Context). y .latest) ec ∙ i ∙ contexts .latest-decls-are .at-list (list - 1) (omega arith) ∙ ap word (latest-declaration w p b x (list - 1) (j .is-list))
+          ap (λ (y : Context). y .latest) ec ∙ i ∙ contexts .latest-decls-are .at-list (list - 1) (omega arith)
+          ∙ ap word (latest-declaration w p b x (list - 1) (j .is-list))
 
       pub labelled : ListTable w (latestLabel w p b) (suc x) (set m (list - 1) (now .label))
       labelled =

@@ -44,7 +44,8 @@ nothing-before-none (x ∷ xs) = refl
 
 module _ (a b : List ℕ) (i : ℕ) where
   -- where the shorter one ends, it comes first
-  pub before-lengths : (length a < length b → i ≡ length a) → (length b ≤ length a → i ≡ length b) → ltb (length a) (length b) ≡ bytesBefore (drop i a) (drop i b)
+  pub before-lengths : (length a < length b → i ≡ length a) → (length b ≤ length a → i ≡ length b)
+      → ltb (length a) (length b) ≡ bytesBefore (drop i a) (drop i b)
   unfolding bytesBefore
   before-lengths f g = elim (decLt (length a) (length b)) [
     | yes h ↦

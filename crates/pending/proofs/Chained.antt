@@ -1,4 +1,5 @@
--- A chain of linked rows, taken one row at a time; stores at places in a row put the words that come last first; and the state in the middle of a label's resolving.
+-- A chain of linked rows, taken one row at a time; stores at places in a row put the words that come last first; and the state in the middle of a
+-- label's resolving.
 -- Assumes nothing.
 use mathlib.Core.Path.{_≡_, refl, sym, _∙_, ap}
 use mathlib.Core.List.{List, [], _∷_, _++_, append-nil}
@@ -86,7 +87,8 @@ module _ {links : List ℕ} {head list latest : ℕ} {all : List ℕ} {last : �
       → Counted links head list latest (over + 1) next all last
   count-yes {over} {g} {next} k l h n =
       let s = step (k .chain) l in
-      let e : countOver latest (k .rest) ≡ suc (countOver latest (s .rest)) = ap (countOver latest) (s .are) ∙ countOver-yes latest (g - 1) (s .rest) (omega arith) in
+      let e : countOver latest (k .rest) ≡ suc (countOver latest (s .rest)) =
+      ap (countOver latest) (s .are) ∙ countOver-yes latest (g - 1) (s .rest) (omega arith) in
       rw n (record { rest = s .rest; chain = s .chain; low = omega (arith, s .lower, k .low); count = omega (arith, k .count) })
 
   pub count-no : {over g next : ℕ} → Counted links head list latest over g all last → list < g → latest ≤ g → next ≡ getD links (g - 1) 0
@@ -120,7 +122,8 @@ threes-yes w latest g gs h = rw (lt-ltb (suc g) latest h, threes)
 
 -- the last report first: it stands right before the place `at`, and the others before it
 pub threes-sets : (w s : List ℕ) (latest g : ℕ) (gs : List ℕ) (start at : ℕ) → suc g < latest → start + suc (countOver latest gs) ≡ at
-    → sets s (start * 4) (faultWords (threes w latest (g ∷ gs))) ≡ sets (sets s ((at - 1) * 4) (wordsOfThree w latest g)) (start * 4) (faultWords (threes w latest gs))
+    → sets s (start * 4) (faultWords (threes w latest (g ∷ gs))) ≡ sets (sets s ((at - 1) * 4) (wordsOfThree w latest g)) (start * 4)
+    (faultWords (threes w latest gs))
 threes-sets w s latest g gs start at h e =
     let n : start * 4 + length (faultWords (threes w latest gs)) ≡ (at - 1) * 4 = omega (arith, words-length (threes w latest gs), threes-length w latest gs) in
     rw (threes-yes w latest g gs h)
@@ -159,7 +162,8 @@ module _ {w sheet₀ bindings₀ links : List ℕ} {head list latest end v : ℕ
     pub resolve-some : countOver latest all ≤ end → list < g → g < latest → 0 < at
     resolve-some few l h =
         let s = step (k .chain) l in
-        let e : countOver latest (k .rest) ≡ suc (countOver latest (s .rest)) = ap (countOver latest) (s .are) ∙ countOver-yes latest (g - 1) (s .rest) (omega arith) in
+        let e : countOver latest (k .rest) ≡ suc (countOver latest (s .rest)) =
+        ap (countOver latest) (s .are) ∙ countOver-yes latest (g - 1) (s .rest) (omega arith) in
         omega (arith, k .count)
 
     pub resolve-lower : list < g → getD links (g - 1) 0 < g
@@ -169,10 +173,12 @@ module _ {w sheet₀ bindings₀ links : List ℕ} {head list latest end v : ℕ
     stored-step rest e = rw (← k .bound, e)
 
     pub resolve-yes : {next : ℕ} → list < g → g < latest → 0 < at → next ≡ getD links (g - 1) 0
-        → Resolves w sheet₀ bindings₀ links (sets sheet ((at - 1) * 4) (wordsOfThree w latest (g - 1))) (set bindings (g - 1) v) head list latest end v (at - 1) next all last
+        → Resolves w sheet₀ bindings₀ links (sets sheet ((at - 1) * 4) (wordsOfThree w latest (g - 1))) (set bindings (g - 1) v) head list latest end v
+        (at - 1) next all last
     resolve-yes l h z n =
         let s = step (k .chain) l in
-        let e : countOver latest (k .rest) ≡ suc (countOver latest (s .rest)) = ap (countOver latest) (s .are) ∙ countOver-yes latest (g - 1) (s .rest) (omega arith) in
+        let e : countOver latest (k .rest) ≡ suc (countOver latest (s .rest)) =
+        ap (countOver latest) (s .are) ∙ countOver-yes latest (g - 1) (s .rest) (omega arith) in
         rw n (record {
           rest = s .rest;
           chain = s .chain;
@@ -198,7 +204,8 @@ module _ {w sheet₀ bindings₀ links : List ℕ} {head list latest end v : ℕ
         → Resolves w sheet₀ bindings₀ links sheet (set bindings (g - 1) v) head list latest end v at next all last
     resolve-no l h n =
         let s = step (k .chain) l in
-        let e : countOver latest (k .rest) ≡ countOver latest (s .rest) = ap (countOver latest) (s .are) ∙ countOver-no latest (g - 1) (s .rest) (omega arith) in
+        let e : countOver latest (k .rest) ≡ countOver latest (s .rest) =
+        ap (countOver latest) (s .are) ∙ countOver-no latest (g - 1) (s .rest) (omega arith) in
         rw n (record {
           rest = s .rest;
           chain = s .chain;

@@ -1,4 +1,5 @@
--- A Labeled row x, not `_`, of the walk: of the gotos before it, those that it resolves are the pending ones of its canonical number that stand after its list's row.
+-- A Labeled row x, not `_`, of the walk: of the gotos before it, those that it resolves are the pending ones of its canonical number that stand after
+-- its list's row.
 -- So those before that row, and those of other numbers, stay as they are.
 -- Assumes nothing.
 use mathlib.Core.Path.{_≡_, refl, sym, _∙_, ap}
@@ -184,7 +185,8 @@ module _ {w p b cs ds ls : List ℕ} {x : ℕ} (tables : Tables w p b cs ds ls (
     )
   ]
 
-  pub link-same : (g : ℕ) → g < x → pending w p b (suc x) g ≡ true → previousPending w p b (suc x) (rowCanon w p b g) g ≡ previousPending w p b x (rowCanon w p b g) g
+  pub link-same : (g : ℕ) → g < x → pending w p b (suc x) g ≡ true
+      → previousPending w p b (suc x) (rowCanon w p b g) g ≡ previousPending w p b x (rowCanon w p b g) g
   unfolding previousPending
   link-same g h q =
       let d = rowCanon w p b g in

@@ -1,4 +1,5 @@
--- The state of the walk after a Labeled row, not `_`: its own binding or its two reports, then the gotos that it resolves, each bound to it and reported where it jumps
+-- The state of the walk after a Labeled row, not `_`: its own binding or its two reports, then the gotos that it resolves, each bound to it and
+-- reported where it jumps
 -- over a declaration, then the head of its number. The room for the reports is that of all rows up to it.
 -- Assumes nothing.
 use mathlib.Core.Path.{_≡_, sym, _∙_, ap}
@@ -137,7 +138,8 @@ module _ {w p b cs ds ls s t heads goto-or-label : List ℕ} {x faults latest : 
     repeats : (d ≡ suc x → ⊥) → length fs ≡ 2
     repeats n = ap length (repeated-is w p b x (own .0) (own .1) (λ e. n (declared-suc ∙ ap suc e)))
 
-    pub declare-asks : ((x < rowCount w) × (x < length t)) × (((0 < d) × (d ≤ rowCount w) × (rowCount w ≤ 2000)) × ((d ≡ suc x → ⊥) → faults * 4 + 8 ≤ length s))
+    pub declare-asks : ((x < rowCount w) × (x < length t))
+        × (((0 < d) × (d ≤ rowCount w) × (rowCount w ≤ 2000)) × ((d ≡ suc x → ⊥) → faults * 4 + 8 ≤ length s))
     declare-asks = (
       (row, omega (arith, walking .bindings-room)),
       (
@@ -270,7 +272,8 @@ module _ {w p b cs ds ls s t heads goto-or-label : List ℕ} {x faults latest : 
             let e : end-of * 4 ≡ a + length js * 4 = omega (arith, end-is) in
             let f : (faults + length fs + length js) * 4 ≡ a + length js * 4 = omega arith in
             let own-kept : drop a s′ ≡ drop a s = rw (done .sheet-is) (puts-kept s faults fs more-fits) in
-            let last-kept : drop (a + length js * 4) s″ ≡ drop (a + length js * 4) s′ = rw sheet-last (rw f at (puts-kept s′ (faults + length fs) js last-fits)) in
+            let last-kept : drop (a + length js * 4) s″ ≡ drop (a + length js * 4) s′ =
+            rw sheet-last (rw f at (puts-kept s′ (faults + length fs) js last-fits)) in
             rw e (last-kept ∙ sym (drop-drop (length js * 4) a s′) ∙ ap (drop (length js * 4)) own-kept ∙ drop-drop (length js * 4) a s)
 
         abbrev Q : ℕ → Bool
@@ -318,7 +321,8 @@ module _ {w p b cs ds ls s t heads goto-or-label : List ℕ} {x faults latest : 
             reported = reported-all;
             bindings-room = omega (arith, walking .bindings-room, bindings-same);
             bound = rw (end-done .bound)
-                (bindings-are w p b (suc x) (stored t′ taken (suc x)) (omega (arith, walking .bindings-room, stored-length t′ taken (suc x), done .same-length)) bound-at);
+                (bindings-are w p b (suc x) (stored t′ taken (suc x))
+                (omega (arith, walking .bindings-room, stored-length t′ taken (suc x), done .same-length)) bound-at);
             heads-room = rw length-set (walking .heads-room);
             heads-are = heads-at;
             block-labels = goto-or-label-other w p b x goto-or-label (no-block tables row label) (walking .block-labels);

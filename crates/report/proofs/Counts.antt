@@ -80,7 +80,8 @@ module _ (f : List ℕ) where
   counts-1 : badRowWords (rowWords f) ≡ true → refusedText 1 0 ≡ bodyText (rowWords f) (pairWords f) (nameBytes f)
   counts-1 e = text-refused (rowWords f) (pairWords f) (nameBytes f) (1, 0) (refused-at (rowWords f) (pairWords f) (nameBytes f) 0 0 tt (bad-1 (rowWords f) e))
 
-  counts-2 : badRowWords (rowWords f) ≡ false → badNameWords (pairWords f) (nameBytes f) ≡ true → refusedText 2 0 ≡ bodyText (rowWords f) (pairWords f) (nameBytes f)
+  counts-2 : badRowWords (rowWords f) ≡ false → badNameWords (pairWords f) (nameBytes f) ≡ true
+      → refusedText 2 0 ≡ bodyText (rowWords f) (pairWords f) (nameBytes f)
   counts-2 a e = text-refused (rowWords f) (pairWords f) (nameBytes f) (2, 0)
       (refused-at (rowWords f) (pairWords f) (nameBytes f) 1 0 (good-1 (rowWords f) a, tt) (bad-2 (pairWords f) (nameBytes f) e))
 

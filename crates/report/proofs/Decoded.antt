@@ -20,12 +20,15 @@ words-read f i k new rest old h e =
 pub words-count : (f : List ℕ) (i k : ℕ) (new rest old : List ℕ) → k ≤ length old → new ≡ words f i (length (take k old)) → k ≡ length (take k (new ++ rest))
 words-count f i k new rest old h e = sym (ap length (words-read f i k new rest old h e) ∙ words-length f i k)
 
-pub parts : (f : List ℕ) (x y : ℕ) (w p b : List ℕ) → length f ≡ said f → x ≡ rows f → y ≡ names f → w ≡ words f 12 (x * 5) → p ≡ words f (12 + x * 5 * 4) (y * 2)
-    → b ≡ take (length f - (12 + x * 5 * 4 + y * 2 * 4)) (drop (12 + x * 5 * 4 + y * 2 * 4) f) → bodyText w p b ≡ bodyText (rowWords f) (pairWords f) (nameBytes f)
+pub parts : (f : List ℕ) (x y : ℕ) (w p b : List ℕ) → length f ≡ said f → x ≡ rows f → y ≡ names f → w ≡ words f 12 (x * 5)
+    → p ≡ words f (12 + x * 5 * 4) (y * 2)
+    → b ≡ take (length f - (12 + x * 5 * 4 + y * 2 * 4)) (drop (12 + x * 5 * 4 + y * 2 * 4) f)
+    → bodyText w p b ≡ bodyText (rowWords f) (pairWords f) (nameBytes f)
 parts f x y w p b l e g ew ep eb =
     ap (λ (v : List ℕ). bodyText v p b) (ew ∙ ap (λ (n : ℕ). words f 12 (n * 5)) e)
     ∙ ap (λ (v : List ℕ). bodyText (rowWords f) v b) (ep ∙ ap (λ (n : ℕ). words f n (y * 2)) pairs-from ∙ ap (λ (n : ℕ). words f (12 + rows f * 20) (n * 2)) g)
-    ∙ ap (bodyText (rowWords f) (pairWords f)) (eb ∙ ap (λ (n : ℕ). take (length f - n) (drop n f)) bytes-from ∙ ap (λ (n : ℕ). take n (drop (12 + rows f * 20 + names f * 8) f)) bytes-many)
+    ∙ ap (bodyText (rowWords f) (pairWords f))
+    (eb ∙ ap (λ (n : ℕ). take (length f - n) (drop n f)) bytes-from ∙ ap (λ (n : ℕ). take n (drop (12 + rows f * 20 + names f * 8) f)) bytes-many)
   where
     pairs-from : 12 + x * 5 * 4 ≡ 12 + rows f * 20
     pairs-from = omega arith

@@ -55,7 +55,8 @@ pub refusals : (marksText [] ≡ refused 48)
 unfolding computed words badFile decimal sheetText bindsText bodyText marksText
 refusals = (refl, refl, refl)
 
--- ---- from the first bytes and the length: the example whole; one byte too many; a part of it alone; 2,001 rows by the header alone, with their length and with another
+-- ---- from the first bytes and the length: the example whole; one byte too many; a part of it alone; 2,001 rows by the header alone, with their
+-- length and with another
 
 abbrev manyRows : List ℕ
 manyRows = 209 ∷ 7 ∷ 0 ∷ 0 ∷ small (0 ∷ 0 ∷ [])
@@ -73,6 +74,7 @@ pub read-whole : startText file 130 ≡ marksText file
 read-whole = of-whole file 52012 (omega arith)
 
 -- numbers of one digit and of more
-pub numbers : (decimal 0 ≡ 48 ∷ []) × (decimal 9 ≡ 57 ∷ []) × (decimal 10 ≡ 49 ∷ 48 ∷ []) × (decimal 4294967295 ≡ 52 ∷ 50 ∷ 57 ∷ 52 ∷ 57 ∷ 54 ∷ 55 ∷ 50 ∷ 57 ∷ 53 ∷ [])
+pub numbers : (decimal 0 ≡ 48 ∷ []) × (decimal 9 ≡ 57 ∷ []) × (decimal 10 ≡ 49 ∷ 48 ∷ [])
+    × (decimal 4294967295 ≡ 52 ∷ 50 ∷ 57 ∷ 52 ∷ 57 ∷ 54 ∷ 55 ∷ 50 ∷ 57 ∷ 53 ∷ [])
 unfolding computed decimal
 numbers = (refl, refl, refl, refl)

@@ -8,7 +8,8 @@ use lib.Dec.{eqb}
 use lib.ListN.{getD}
 use borrow.Author.Tests.{eqb-true, ne-eqb}
 use Rattle.rules.specs.Scan.{lowest}
-use Rattle.rules.specs.Class.{Class, empty, block, if, ifElse, select, oneOf, isBranch, isSwitch, isLoop, isBreakable, isCase, isComm, isStatement, detailAllowed, classOf}
+use Rattle.rules.specs.Class.{Class, empty, block, if, ifElse, select, oneOf, isBranch, isSwitch, isLoop, isBreakable, isCase, isComm, isStatement}
+use Rattle.rules.specs.Class.{detailAllowed, classOf}
 use Rattle.rules.specs.Scope.{holdsItems}
 use Rattle.rules.specs.Refusals.{Holding, nothing, statement, body, branches, statements, cases, comms, holding, mayHold}
 use Rattle.rules.proofs.Every.{every, same, same-eq, implies, implied}

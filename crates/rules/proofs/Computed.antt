@@ -4,7 +4,8 @@ use Rattle.rules.specs.Scan.{lowest, highest, howMany}
 use Rattle.rules.specs.Rows.{depth}
 use Rattle.rules.specs.Class.{detailAllowed, classOf, base, class}
 use Rattle.rules.specs.Names.{previousEnd, badNameWords, badPair, namesOk, nameBytes, sameBytes, bytesBefore, sameName, isBlank, rank}
-use Rattle.rules.specs.Refusals.{badRowWords, nameAllowed, badRow, badSize, childrenFit, isBody, badShape, cause1, cause2, cause3, cause4, cause5, cause6, firstCause, refusal}
+use Rattle.rules.specs.Refusals.{badRowWords, nameAllowed, badRow, badSize, childrenFit, isBody, badShape, cause1, cause2, cause3, cause4, cause5}
+use Rattle.rules.specs.Refusals.{cause6, firstCause, refusal}
 use Rattle.rules.specs.Scope.{innermost, listOf, inListOf, onlyEmpty, nextCase}
 use Rattle.rules.specs.Labels.{
   each,
@@ -37,5 +38,10 @@ use Rattle.rules.specs.Verdict.{labelOn, refersTo, hasBreak, anyDefault,
 use Rattle.rules.specs.Runner.{climb, after, breakTo, continueTo, gotoTo, itemAt, itemCount, clauseCount, choices, step}
 
 unfoldable pub computed : Type 0
-unfolding lowest highest howMany depth detailAllowed classOf base class previousEnd badNameWords badPair namesOk nameBytes sameBytes bytesBefore sameName isBlank rank badRowWords nameAllowed badRow badSize childrenFit isBody badShape cause1 cause2 cause3 cause4 cause5 cause6 firstCause refusal innermost listOf inListOf onlyEmpty nextCase each isLabel labels declared earlier later gotoLabel latestDeclaration pending lastInRun inBlockOf target validTarget labelledBreak binding jumpsOver repeated report unresolved used declaredAt unused sheet bindings endsCase wellPlaced badlyPlaced placing labelOn refersTo hasBreak anyDefault hasDefault terminating terminatingList terminatingClauses verdict climb after breakTo continueTo gotoTo itemAt itemCount clauseCount choices step
+unfolding lowest highest howMany depth detailAllowed classOf base class previousEnd badNameWords badPair namesOk nameBytes sameBytes bytesBefore sameName
+    isBlank rank badRowWords nameAllowed badRow badSize childrenFit isBody badShape cause1 cause2 cause3 cause4 cause5 cause6 firstCause refusal innermost
+    listOf inListOf onlyEmpty nextCase each isLabel labels declared earlier later gotoLabel latestDeclaration pending lastInRun inBlockOf target validTarget
+    labelledBreak binding jumpsOver repeated report unresolved used declaredAt unused sheet bindings endsCase wellPlaced badlyPlaced placing labelOn refersTo
+    hasBreak anyDefault hasDefault terminating terminatingList terminatingClauses verdict climb after breakTo continueTo gotoTo itemAt itemCount clauseCount
+    choices step
 computed = Unit {0}

@@ -1,4 +1,5 @@
--- A rule of a finite table is one test that computes at every entry, and one law that says it of each: for numbers below a bound, for pairs of them, and for the classes, which are numbered.
+-- A rule of a finite table is one test that computes at every entry, and one law that says it of each: for numbers below a bound, for pairs of them,
+-- and for the classes, which are numbered.
 -- Assumes nothing.
 use mathlib.Core.Path.{_≡_, refl, sym, _∙_, ap}
 use mathlib.Core.Bool.{Bool, true, false, not}

@@ -13,7 +13,8 @@ use Rattle.rules.specs.Class.{declaration, goto, class}
 use Rattle.rules.specs.Scope.{listOf, inListOf}
 use Rattle.rules.specs.Labels.{isSome, is, isClass, labels, declared, earlier, later, gotoLabel, latestDeclaration, pending}
 use Rattle.rules.proofs.Test.{case-of, case-found, clash, and-true}
-use Rattle.rules.proofs.Scan.{lowest-none, none-lowest, lowest-found, lowest-first, found-lowest, highest-found, highest-last, highest-none, found-highest}
+use Rattle.rules.proofs.Scan.{lowest-none, none-lowest, lowest-found, lowest-first, found-lowest, highest-found, highest-last, highest-none}
+use Rattle.rules.proofs.Scan.{found-highest}
 use Rattle.rules.proofs.ClassTests.{one-is}
 use Rattle.rules.proofs.Found.{is-found, found-is, is-none}
 use Rattle.rules.proofs.Every.{is-one}

@@ -11,7 +11,8 @@ use native.Mathlib.Decide.{ℕ-discrete}
 use borrow.Author.Tests.{not-true}
 use Rattle.rules.specs.Scan.{lowest}
 use Rattle.rules.specs.Rows.{rowCount, kind, detail, Child}
-use Rattle.rules.specs.Class.{Class, empty, caseBlock, oneOf, isBranch, isBreakable, isLoop, isCase, isStatement, detailAllowed, classOf, following, base, class}
+use Rattle.rules.specs.Class.{Class, empty, caseBlock, oneOf, isBranch, isBreakable, isLoop, isCase, isStatement, detailAllowed, classOf, following}
+use Rattle.rules.specs.Class.{base, class}
 use Rattle.rules.specs.Scope.{isList, holdsItems, around, innermost, listOf}
 use Rattle.rules.specs.Body.{Body, fits}
 use Rattle.rules.proofs.Test.{case-of, case-found, clash, and-true}

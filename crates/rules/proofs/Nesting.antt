@@ -1,4 +1,5 @@
--- The rows as nested intervals: where every child ends within its parent, whatever begins in a row ends in it, and the child relation, stepped through by size, is the parent relation, sought upward.
+-- The rows as nested intervals: where every child ends within its parent, whatever begins in a row ends in it, and the child relation, stepped
+-- through by size, is the parent relation, sought upward.
 -- Assumes nothing.
 use mathlib.Core.Path.{_≡_}
 use mathlib.Core.Option.{some}

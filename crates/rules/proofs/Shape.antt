@@ -1,5 +1,6 @@
 -- What a row without a fault of shape has below it: each child fits, and there are as many as its class asks for.
--- A child's class is its own words' but for the Block of a switch or Select. That is the one right after its switch: any other row that follows such a row would leave it without its Block.
+-- A child's class is its own words' but for the Block of a switch or Select. That is the one right after its switch: any other row that follows such
+-- a row would leave it without its Block.
 -- Assumes nothing.
 use mathlib.Core.Path.{_≡_, refl, sym, _∙_}
 use mathlib.Core.Bool.{Bool, true, false, _&&_, _||_, not}
@@ -12,7 +13,8 @@ use borrow.Author.Tests.{lt-ltb, le-ltb, leb-true, eqb-true, not-false}
 use Rattle.rules.specs.Scan.{lowest}
 use Rattle.rules.specs.Rows.{rowCount, kind, detail, size, end, Item, here, later, Child}
 use Rattle.rules.specs.Class.{Class, block, caseBlock, commBlock, select, code, oneOf, isSwitch, detailAllowed, classOf, base, following, class}
-use Rattle.rules.specs.Refusals.{Holding, nothing, statement, body, branches, statements, cases, comms, holding, mayHold, atLeast, childrenFit, isBody, badShape}
+use Rattle.rules.specs.Refusals.{Holding, nothing, statement, body, branches, statements, cases, comms, holding, mayHold, atLeast, childrenFit, isBody}
+use Rattle.rules.specs.Refusals.{badShape}
 use Rattle.rules.specs.Body.{Sized, Detailed, fits, OneChild, TwoChildren}
 use Rattle.rules.proofs.Test.{case-of, clash, and-true}
 use Rattle.rules.proofs.Every.{every, every-pair, implies, implied, of-class, of-classes, is-class, is-one}
@@ -74,7 +76,9 @@ isBody′ h = elim h [ nothing ↦ false | statement ↦ false | body ↦ true |
 -- the first child of p
 first-fits : (p c : Class) → either (holding p) c ≡ true → fits p (following (baseOf p) c) ≡ true
 unfolding every lowest
-first-fits p c = implied (either (holding p) c) (fits p (following (baseOf p) c)) (of-classes (λ p c. implies (either (holding p) c) (fits p (following (baseOf p) c))) refl p c)
+first-fits p c =
+    implied (either (holding p) c) (fits p (following (baseOf p) c))
+    (of-classes (λ p c. implies (either (holding p) c) (fits p (following (baseOf p) c))) refl p c)
 
 -- a later child of p
 later-fits : (p c : Class) → isBody′ (holding p) ≡ false → either (holding p) c ≡ true → fits p c ≡ true
@@ -235,7 +239,8 @@ module _ (w : List ℕ) (sized : Sized w) (detailed : Detailed w) (shaped : (r :
   unfolding class
   two-parts r l e =
       let (y, m, s, g) = first-child branches r l e (omega arith) in
-      let other : opens (base w r) ≡ false = case-of (opens (base w r)) (λ t. let z : body ≡ branches = sym (holds-block r l t) ∙ e in absurd (clash (cc))) (λ f. f) in
+      let other : opens (base w r) ≡ false =
+      case-of (opens (base w r)) (λ t. let z : body ≡ branches = sym (holds-block r l t) ∙ e in absurd (clash (cc))) (λ f. f) in
       let isBlock : class w (suc r) ≡ block = follows-other (base w r) (base w (suc r)) other ∙ is-one (base w (suc r)) block m in
       elim (decLt (end w (suc r)) (end w r)) [
         | no z ↦ absurd (omega (arith, fit-end w branches (end w r) (g .0) 1 (end w (suc r)) (g .1) (omega arith)))

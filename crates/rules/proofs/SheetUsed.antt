@@ -1,5 +1,7 @@
--- What the first half of the handbook's law says, written out: with an empty sheet each label other than `_` is declared once and named by a branch, and each labelled
--- branch has its lawful destination; and where all of that holds the sheet is empty. No statement here uses a name of specs/Law.antt for its own meaning, so a weaker law
+-- What the first half of the handbook's law says, written out: with an empty sheet each label other than `_` is declared once and named by a branch,
+-- and each labelled
+-- branch has its lawful destination; and where all of that holds the sheet is empty. No statement here uses a name of specs/Law.antt for its own
+-- meaning, so a weaker law
 -- doesn't give them. Then the law on two bodies: body 1 has an empty sheet, so it is lawful; body 6 has a 3 on its sheet, so it is not.
 -- Assumes nothing.
 use mathlib.Core.Path.{_≡_, refl}

@@ -1,4 +1,5 @@
--- The table of document 01's bodies 1 to 12, as one theorem: each body is well-formed and has these sheet codes and this verdict; of 9 also the binding of the goto, of 12 the placing.
+-- The table of document 01's bodies 1 to 12, as one theorem: each body is well-formed and has these sheet codes and this verdict; of 9 also the
+-- binding of the goto, of 12 the placing.
 -- Assumes nothing.
 use mathlib.Core.Path.{_≡_, refl}
 use mathlib.Core.Bool.{Bool, true, false}

@@ -167,7 +167,8 @@ module _ (w p b : List ℕ) where
 
   pub terminating-always : (f r : ℕ) → isAlways (class w r) ≡ true → terminating w p b (suc f) r ≡ true
   unfolding terminating
-  terminating-always f r t = by-one _ (stop ∷ goto ∷ fallthrough ∷ []) (class w r) t (λ e. rw (e, terminating)) (λ e. rw (e, terminating)) (λ e. rw (e, terminating))
+  terminating-always f r t =
+      by-one _ (stop ∷ goto ∷ fallthrough ∷ []) (class w r) t (λ e. rw (e, terminating)) (λ e. rw (e, terminating)) (λ e. rw (e, terminating))
 
   pub terminating-labeled : (f r : ℕ) → class w r ≡ labeled → terminating w p b (suc f) r ≡ terminating w p b f (suc r)
   unfolding terminating

@@ -1,4 +1,5 @@
--- Document 01, "Bodies to try": the bodies 1 to 12 as rows, with the names L, M and `_`, each row at the position of its number plus 1; then bodies for the runner.
+-- Document 01, "Bodies to try": the bodies 1 to 12 as rows, with the names L, M and `_`, each row at the position of its number plus 1; then bodies
+-- for the runner.
 -- Assumes nothing.
 use mathlib.Core.List.{List, [], _∷_}
 use Prim.Native.Nat.{ℕ, suc}

@@ -132,7 +132,8 @@ module _ (w p b : List ℕ) where
   unfoldable pub jumpsOver : ℕ → ℕ → List Fault
   jumpsOver r g = elim (latestDeclaration r) [
     | none ↦ []
-    | some d ↦ only (pending r g && (labels g r && (inListOf w r g && ltb g d))) (record { code = 3; position = position w g; name = name w g; other = position w d })
+    | some d ↦ only (pending r g && (labels g r && (inListOf w r g && ltb g d)))
+        (record { code = 3; position = position w g; name = name w g; other = position w d })
   ]
 
   -- 1 and 2: the label r is not the declared one of its name

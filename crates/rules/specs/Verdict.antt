@@ -6,7 +6,8 @@ use Prim.Native.Nat.{ℕ, zero, suc, _+_}
 use lib.Dec.{ltb, eqb}
 use Rattle.rules.specs.Scan.{lowest}
 use Rattle.rules.specs.Rows.{name, size, end}
-use Rattle.rules.specs.Class.{plain, declaration, empty, labeled, stop, break, continue, goto, fallthrough, block, caseBlock, commBlock, if, ifElse, case, defaultCase, comm, defaultComm, switch, typeSwitch, select, for, forCond, oneOf, isBreakable, class}
+use Rattle.rules.specs.Class.{plain, declaration, empty, labeled, stop, break, continue, goto, fallthrough, block, caseBlock, commBlock, if, ifElse}
+use Rattle.rules.specs.Class.{case, defaultCase, comm, defaultComm, switch, typeSwitch, select, for, forCond, oneOf, isBreakable, class}
 use Rattle.rules.specs.Scope.{around, innermost, onlyEmpty}
 use Rattle.rules.specs.Labels.{isSome, is, isClass, sameNames}
 

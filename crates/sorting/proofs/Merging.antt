@@ -109,7 +109,8 @@ module _ (p b : List ℕ) where
             ));
           }
 
-      pub merge-right : (out : List ℕ) (i j k : ℕ) → Merging s out mid i j k → Next p b s mid i j false → Merging s (set out k (getD s j 0)) mid i (j + 1) (k + 1)
+      pub merge-right : (out : List ℕ) (i j k : ℕ) → Merging s out mid i j k → Next p b s mid i j false
+          → Merging s (set out k (getD s j 0)) mid i (j + 1) (k + 1)
       merge-right out i j k w t =
           let h : k < length out = omega (arith, t .0) in
           record {

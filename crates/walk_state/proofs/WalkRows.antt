@@ -30,7 +30,8 @@ module _ (w p b : List ℕ) where
   -- ---- the labels of Blocks
 
   -- a row that is none
-  pub goto-or-label-other : (x : ℕ) (goto-or-label : List ℕ) → isBlock (class w x) ≡ false → BlockLabels w p b x goto-or-label → BlockLabels w p b (suc x) goto-or-label
+  pub goto-or-label-other : (x : ℕ) (goto-or-label : List ℕ) → isBlock (class w x) ≡ false → BlockLabels w p b x goto-or-label
+      → BlockLabels w p b (suc x) goto-or-label
   goto-or-label-other x goto-or-label f l = (
     l .0,
     λ k h t. elim (ℕ-discrete k x) [
@@ -124,7 +125,8 @@ module _ (w p b : List ℕ) where
       state : (h′ l′ : List ℕ) → pairCount p < length h′
           → ((c : ℕ) → 0 < c → c ≤ pairCount p → getD h′ c 0 ≡ word (previousPending w p b (suc x) c (suc x)))
           → BlockLabels w p b (suc x) l′
-          → ((g : ℕ) → g < suc x → pending w p b (suc x) g ≡ true → 0 < rowCanon w p b g → getD l′ g 0 ≡ word (previousPending w p b (suc x) (rowCanon w p b g) g))
+          → ((g : ℕ) → g < suc x → pending w p b (suc x) g ≡ true → 0 < rowCanon w p b g
+          → getD l′ g 0 ≡ word (previousPending w p b (suc x) (rowCanon w p b g) g))
           → Walked w p b (suc x) faults′ s t s′ t′ h′ l′
       state h′ l′ room heads blocks gotos = record {
         state = record {
@@ -182,7 +184,8 @@ module _ (w p b : List ℕ) where
                 ∙ ap word (sym (previous-other w p b (suc x) x d q (λ i. j (sym i)) ∙ previous-same w p b x d x n))
           ])
           (goto-or-label-other x (set l x (getD h c 0)) o
-          (goto-or-label-kept x l (set l x (getD h c 0)) (rw length-set (walking .block-labels .0)) (λ r a u. getD-set-other l x r (getD h c 0) 0 (λ i. omega arith))
+          (goto-or-label-kept x l (set l x (getD h c 0)) (rw length-set (walking .block-labels .0))
+          (λ r a u. getD-set-other l x r (getD h c 0) 0 (λ i. omega arith))
           (walking .block-labels)))
           (λ g a u y. elim (ℕ-discrete g x) [
             | yes i ↦

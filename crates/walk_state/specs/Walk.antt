@@ -50,7 +50,8 @@ module _ (w p b : List ℕ) where
 
   -- the label that each Block before row x belongs to
   abbrev pub BlockLabels : ℕ → List ℕ → Type 0
-  BlockLabels x goto-or-label = (rowCount w ≤ length goto-or-label) × ((k : ℕ) → k < x → isBlock (class w k) ≡ true → getD goto-or-label k 0 ≡ word (currentLabel k))
+  BlockLabels x goto-or-label =
+      (rowCount w ≤ length goto-or-label) × ((k : ℕ) → k < x → isBlock (class w k) ≡ true → getD goto-or-label k 0 ≡ word (currentLabel k))
 
   -- ---- all of it
   pub record Walking (x faults : ℕ) (sheet bindings heads goto-or-label : List ℕ) : Type 0 where

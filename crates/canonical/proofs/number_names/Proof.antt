@@ -10,7 +10,8 @@ use Rattle.canonical.proofs.number_names.Statement.{statement}
 use Rattle.canonical.proofs.number_names.Tie as tie
 
 abbrev Inv-loop : tie.InvT-loop
-Inv-loop pairs bytes heads₀ next-in-slot₀ keys₀ firsts₀ count n₀ heads next-in-slot keys firsts n = Numbering pairs bytes heads₀ next-in-slot₀ keys₀ firsts₀ heads next-in-slot keys firsts n
+Inv-loop pairs bytes heads₀ next-in-slot₀ keys₀ firsts₀ count n₀ heads next-in-slot keys firsts n =
+    Numbering pairs bytes heads₀ next-in-slot₀ keys₀ firsts₀ heads next-in-slot keys firsts n
 
 abbrev μ-loop : tie.MeasureT-loop
 μ-loop pairs bytes heads₀ next-in-slot₀ keys₀ firsts₀ count n₀ heads next-in-slot keys firsts n = count - n

@@ -60,7 +60,8 @@ wide-requires-2 c κs = search needs
 returns-4 : tie.Need-returns-4
 returns-4 c =
     let k = c .before .before .before .before in
-    let t = told-pair _ _ _ (sym (k .before .before .before .names-ok .ensures) ∙ not-false _ (k .before .before .if1 .left)) (k .before .if2 .left) (k .if3 .left) in
+    let t = told-pair _ _ _ (sym (k .before .before .before .names-ok .ensures) ∙ not-false _ (k .before .before .if1 .left)) (k .before .if2 .left)
+    (k .if3 .left) in
     (c .wide2 .ensures ∙ ap second (sym t), c .before .before .wide .ensures ∙ ap first (sym t))
 
 pub zesthull-name-spec : {M : Type 1} → statement M

@@ -43,7 +43,8 @@ enum-told c = search needs
 returns : tie.Need-returns
 returns c =
     let k = c .before .before in
-    tells toldPlacing (c .number-of .ensures) (c .before .index-of .ensures) (sym (ap given (k .before .r .given .1)) ∙ k .before .before .before .ask-placing .ensures)
+    tells toldPlacing (c .number-of .ensures) (c .before .index-of .ensures)
+    (sym (ap given (k .before .r .given .1)) ∙ k .before .before .before .ask-placing .ensures)
 
 returns-2 : tie.Need-returns-2
 returns-2 c = tells toldPlacing refl (add-one _) (bad c)

@@ -26,7 +26,8 @@ enum-told c = search needs
 returns : tie.Need-returns
 returns c =
     let k = c .before .before in
-    tells toldRefusal (c .number-of .ensures) (c .before .index-of .ensures) (sym (ap given (k .before .r .given .1)) ∙ k .before .before .before .refusal-of .ensures)
+    tells toldRefusal (c .number-of .ensures) (c .before .index-of .ensures)
+    (sym (ap given (k .before .r .given .1)) ∙ k .before .before .before .refusal-of .ensures)
 
 returns-2 : tie.Need-returns-2
 returns-2 c = tells toldRefusal refl refl (sym (ap given (c .enum-told .given .1)) ∙ c .before .before .refusal-of .ensures)

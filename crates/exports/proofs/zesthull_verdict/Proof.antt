@@ -29,7 +29,8 @@ enum-told-2 c = search needs
 returns : tie.Need-returns
 returns c =
     let k = c .before .before in
-    tells toldVerdict (c .number-of .ensures) (c .before .index-of .ensures) (sym (ap given (k .before .r .given .1)) ∙ k .before .before .before .ask-verdict .ensures)
+    tells toldVerdict (c .number-of .ensures) (c .before .index-of .ensures)
+    (sym (ap given (k .before .r .given .1)) ∙ k .before .before .before .ask-verdict .ensures)
 
 returns-2 : tie.Need-returns-2
 returns-2 c = tells toldVerdict refl refl (sym (ap given (c .enum-told .given .1)) ∙ c .before .before .ask-verdict .ensures)

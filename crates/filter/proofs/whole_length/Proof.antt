@@ -32,8 +32,10 @@ read-full-requires c κs = search needs
 
 read-on-requires : tie.Need-read-on-requires Inv-loop μ-loop
 read-on-requires c κs =
-    let turn = c .before .before .before in
-    (turn .before .before .loop .inv .1 (not-true _ (turn .if1 .taken)), omega (arith, turn .before .before .loop .inv .0, c .before .read-full .ensures .0, c .before .read-full .kept .1 .0))
+    let turn = c .before .before .before in (
+      turn .before .before .loop .inv .1 (not-true _ (turn .if1 .taken)),
+      omega (arith, turn .before .before .loop .inv .0, c .before .read-full .ensures .0, c .before .read-full .kept .1 .0),
+    )
 
 loop-less : tie.Need-loop-less Inv-loop μ-loop
 loop-less c =
@@ -43,8 +45,10 @@ loop-less c =
 
 loop-again : tie.Need-loop-again Inv-loop μ-loop
 loop-again c =
-    let turn = c .before .before .before .before in
-    (omega (arith, turn .before .before .loop .inv .0, c .before .before .read-full .kept .1 .0), λ e. rw (c .read-on .ensures .0) (not-last _ _ (sym (c .read-on .ensures .1) ∙ e)))
+    let turn = c .before .before .before .before in (
+      omega (arith, turn .before .before .loop .inv .0, c .before .before .read-full .kept .1 .0),
+      λ e. rw (c .read-on .ensures .0) (not-last _ _ (sym (c .read-on .ensures .1) ∙ e)),
+    )
 
 returns : tie.Need-returns Inv-loop μ-loop
 returns c = search needs

@@ -62,7 +62,8 @@ returns c =
     let canon-of = c .before .canon-of in
     let if1 = c .before .before .if1 in
     let valid-target = c .before .before .before .valid-target in
-    break-bound (s .pre .0) _ _ _ _ _ _ (s .pre .1 .1 .0) (s .pre .1 .0) (s .pre .1 .1 .1) (s .pre .1 .1 .2) _ _ (canon-of .ensures) refl (sym (if1 .taken) ∙ valid-target .ensures)
+    break-bound (s .pre .0) _ _ _ _ _ _ (s .pre .1 .1 .0) (s .pre .1 .0) (s .pre .1 .1 .1) (s .pre .1 .1 .2) _ _ (canon-of .ensures) refl
+    (sym (if1 .taken) ∙ valid-target .ensures)
 
 detail-requires : tie.Need-detail-requires
 detail-requires c κs = search needs
@@ -79,7 +80,8 @@ put-requires c κs =
     let if1 = c .before .before .if1 in
     let valid-target = c .before .before .before .valid-target in (
       s .pre .1 .1 .0,
-      break-fits (s .pre .0) _ _ _ _ _ _ (s .pre .1 .1 .0) (s .pre .1 .0) (s .pre .1 .1 .1) (s .pre .1 .1 .2) _ (ap (λ (n : ℕ). 4 + n) (detail .ensures)) (sym (if1 .left) ∙ valid-target .ensures),
+      break-fits (s .pre .0) _ _ _ _ _ _ (s .pre .1 .1 .0) (s .pre .1 .0) (s .pre .1 .1 .1) (s .pre .1 .1 .2) _ (ap (λ (n : ℕ). 4 + n) (detail .ensures))
+          (sym (if1 .left) ∙ valid-target .ensures),
     )
 
 add-result : tie.Need-add-result
@@ -97,7 +99,8 @@ returns-2 c =
     let if1 = at-detail-1 c .before .if1 in
     let valid-target = at-detail-1 c .before .before .valid-target in
     let put = c .before .before .put in
-    break-walked (s .pre .0) _ _ _ _ _ _ (s .pre .1 .1 .0) (s .pre .1 .0) (s .pre .1 .1 .1) (s .pre .1 .1 .2) _ (ap (λ (n : ℕ). 4 + n) (detail .ensures)) (sym (if1 .left) ∙ valid-target .ensures) _ (put .ensures)
+    break-walked (s .pre .0) _ _ _ _ _ _ (s .pre .1 .1 .0) (s .pre .1 .0) (s .pre .1 .1 .1) (s .pre .1 .1 .2) _ (ap (λ (n : ℕ). 4 + n) (detail .ensures))
+    (sym (if1 .left) ∙ valid-target .ensures) _ (put .ensures)
 
 pub break-branches-spec : {M : Type 1} → statement M
 break-branches-spec =

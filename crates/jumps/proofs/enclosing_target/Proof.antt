@@ -143,7 +143,8 @@ canon-of-requires-2 c κs =
     let kind = at-kind-1 c .kind in
     let if2 = c .before .before .before .if2 in
     let wide2 = c .before .wide2 in
-    let h = label-in (s .pre .0) _ (s .pre .1 .1 .0) (canon-of .ensures) _ (loop .inv) (loop-test .taken) _ (kind .ensures) (if2 .taken) (s .args .goto-or-label .now) (s .pre .1 .0)
+    let h = label-in (s .pre .0) _ (s .pre .1 .1 .0) (canon-of .ensures) _ (loop .inv) (loop-test .taken) _ (kind .ensures) (if2 .taken)
+    (s .args .goto-or-label .now) (s .pre .1 .0)
     _ (wide2 .ensures) (c .if3 .taken) in
     (h, canon-place (s .pre .0) _ h)
 
@@ -159,7 +160,8 @@ returns-2 c =
     let if3 = c .before .before .if3 in
     let canon-of2 = c .before .canon-of2 in
     let if1 = at-if1-1 c .if1 in
-    climb-found (s .pre .0) _ (s .pre .1 .1 .0) (canon-of .ensures) _ (loop .inv) (loop-test .taken) _ (kind .ensures) (if2 .taken) (s .args .goto-or-label .now) (s .pre .1 .0) _ (wide2 .ensures) (if3 .taken)
+    climb-found (s .pre .0) _ (s .pre .1 .1 .0) (canon-of .ensures) _ (loop .inv) (loop-test .taken) _ (kind .ensures) (if2 .taken)
+    (s .args .goto-or-label .now) (s .pre .1 .0) _ (wide2 .ensures) (if3 .taken)
     _ (canon-of2 .ensures) (if1 .left) (c .if4 .taken)
 
 mul-wide-3 : tie.Need-mul-wide-3 Inv-loop μ-loop
@@ -199,13 +201,16 @@ loop-again c =
     let kind = c .before .before .before .kind in
     elim (if2 .came) [
       | inl x ↦
-          climb-other (s .pre .0) _ (s .pre .1 .1 .0) (canon-of .ensures) _ (loop .inv) (loop-test .taken) _ (kind .ensures) (x .0 .taken) (s .args .goto-or-label .now) (s .pre .1 .0) _ (x .2 .ensures)
+          climb-other (s .pre .0) _ (s .pre .1 .1 .0) (canon-of .ensures) _ (loop .inv) (loop-test .taken) _ (kind .ensures) (x .0 .taken)
+          (s .args .goto-or-label .now) (s .pre .1 .0) _ (x .2 .ensures)
           (x .3 .taken) _ (x .4 .ensures) _ (c .wide3 .ensures) (x .5 .left)
       | inr y ↦ elim y [
         | inl x ↦
-            climb-unlabelled (s .pre .0) _ (s .pre .1 .1 .0) (canon-of .ensures) _ (loop .inv) (loop-test .taken) _ (kind .ensures) (x .0 .taken) (s .args .goto-or-label .now) (s .pre .1 .0) _ (x .2 .ensures)
+            climb-unlabelled (s .pre .0) _ (s .pre .1 .1 .0) (canon-of .ensures) _ (loop .inv) (loop-test .taken) _ (kind .ensures) (x .0 .taken)
+            (s .args .goto-or-label .now) (s .pre .1 .0) _ (x .2 .ensures)
             _ (c .wide3 .ensures) (x .3 .left)
-        | inr x ↦ climb-plain (s .pre .0) _ (s .pre .1 .1 .0) (canon-of .ensures) _ (loop .inv) (loop-test .taken) _ _ (c .wide3 .ensures) (kind .ensures) (x .left)
+        | inr x ↦ climb-plain (s .pre .0) _ (s .pre .1 .1 .0) (canon-of .ensures) _ (loop .inv) (loop-test .taken) _ _ (c .wide3 .ensures) (kind .ensures)
+            (x .left)
       ]
     ]
 

@@ -113,7 +113,8 @@ returns-2 c =
     let if1 = c .before .before .before .if1 in
     let canon-of = c .before .before .canon-of in
     let if2 = c .before .if2 in
-    goto-pending (s .pre .0) _ _ _ _ _ _ (s .pre .1 .1 .0) (s .pre .1 .0) (s .pre .1 .1 .1) _ (goto-target .ensures) (if1 .left) _ (canon-of .ensures) (if2 .taken)
+    goto-pending (s .pre .0) _ _ _ _ _ _ (s .pre .1 .1 .0) (s .pre .1 .0) (s .pre .1 .1 .1) _ (goto-target .ensures) (if1 .left) _ (canon-of .ensures)
+    (if2 .taken)
 
 returns-3 : tie.Need-returns-3
 returns-3 c =
@@ -121,7 +122,8 @@ returns-3 c =
     let goto-target = c .before .before .before .goto-target in
     let if1 = c .before .before .if1 in
     let canon-of = c .before .canon-of in
-    goto-blank (s .pre .0) _ _ _ _ _ _ (s .pre .1 .1 .0) (s .pre .1 .0) (s .pre .1 .1 .1) _ (goto-target .ensures) (if1 .left) _ (canon-of .ensures) (c .if2 .left)
+    goto-blank (s .pre .0) _ _ _ _ _ _ (s .pre .1 .1 .0) (s .pre .1 .0) (s .pre .1 .1 .1) _ (goto-target .ensures) (if1 .left) _ (canon-of .ensures)
+    (c .if2 .left)
 
 pub goto-branches-spec : {M : Type 1} → statement M
 goto-branches-spec =

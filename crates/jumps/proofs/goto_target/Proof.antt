@@ -176,7 +176,8 @@ returns-5 c =
     let wide2 = at-wide2-2 c .wide2 in
     let if4 = c .before .before .before .if4 in
     let size = c .before .before .size in
-    list-ended (s .pre .0) _ (s .pre .1 .0) (canon-of .ensures) (if1 .left) _ (wide .ensures) (if2 .left) (if3 .left) _ (wide2 .ensures) (if4 .left) _ (size .ensures) (c .if5 .taken)
+    list-ended (s .pre .0) _ (s .pre .1 .0) (canon-of .ensures) (if1 .left) _ (wide .ensures) (if2 .left) (if3 .left) _ (wide2 .ensures) (if4 .left) _
+    (size .ensures) (c .if5 .taken)
 
 returns-6 : tie.Need-returns-6
 returns-6 c =
@@ -189,7 +190,8 @@ returns-6 c =
     let wide2 = at-wide2-1 c .wide2 in
     let if4 = c .before .before .before .if4 in
     let size = c .before .before .size in
-    list-around (s .pre .0) _ (s .pre .1 .0) (canon-of .ensures) (if1 .left) _ (wide .ensures) (if2 .left) (if3 .left) _ (wide2 .ensures) (if4 .left) _ (size .ensures) (c .if5 .left)
+    list-around (s .pre .0) _ (s .pre .1 .0) (canon-of .ensures) (if1 .left) _ (wide .ensures) (if2 .left) (if3 .left) _ (wide2 .ensures) (if4 .left) _
+    (size .ensures) (c .if5 .left)
 
 pub goto-target-spec : {M : Type 1} → statement M
 goto-target-spec =

@@ -64,7 +64,8 @@ put-requires c κs =
     let name = at-name-1 c .name in (
       s .pre .1 .1 .0,
       fallthrough-fits (s .pre .0) _ _ _ _ _ _ (s .pre .1 .1 .0) (s .pre .1 .0)
-          (detail-fallthrough (s .args .rows .now) _ (s .pre .0 .body .details _ (s .pre .1 .1 .0)) (s .pre .1 .1 .1) (sym (detail .ensures) ∙ if2 .taken)) (λ e. if1 .left (name .ensures ∙ e)),
+          (detail-fallthrough (s .args .rows .now) _ (s .pre .0 .body .details _ (s .pre .1 .1 .0)) (s .pre .1 .1 .1) (sym (detail .ensures) ∙ if2 .taken))
+          (λ e. if1 .left (name .ensures ∙ e)),
     )
 
 add-result : tie.Need-add-result
@@ -84,7 +85,8 @@ returns-2 c =
     let name = at-name-1 (c .before .before .before) .name in
     let put = c .before .before .put in
     fallthrough-walked (s .pre .0) _ _ _ _ _ _ (s .pre .1 .1 .0) (s .pre .1 .0)
-    (detail-fallthrough (s .args .rows .now) _ (s .pre .0 .body .details _ (s .pre .1 .1 .0)) (s .pre .1 .1 .1) (sym (detail .ensures) ∙ if2 .taken)) (λ e. if1 .left (name .ensures ∙ e))
+    (detail-fallthrough (s .args .rows .now) _ (s .pre .0 .body .details _ (s .pre .1 .1 .0)) (s .pre .1 .1 .1) (sym (detail .ensures) ∙ if2 .taken))
+    (λ e. if1 .left (name .ensures ∙ e))
     _ (put .ensures)
 
 goto-branches-requires : tie.Need-goto-branches-requires
@@ -93,7 +95,13 @@ goto-branches-requires c κs =
     let detail = at-if3-1 c .before .before .detail in
     let if3 = at-if3-1 c .if3 in (
       s .pre .0,
-      (s .pre .1 .0, (s .pre .1 .1 .0, detail-goto (s .args .rows .now) _ (s .pre .0 .body .details _ (s .pre .1 .1 .0)) (s .pre .1 .1 .1) (sym (detail .ensures) ∙ if3 .taken))),
+      (
+        s .pre .1 .0,
+        (
+          s .pre .1 .1 .0,
+          detail-goto (s .args .rows .now) _ (s .pre .0 .body .details _ (s .pre .1 .1 .0)) (s .pre .1 .1 .1) (sym (detail .ensures) ∙ if3 .taken),
+        ),
+      ),
     )
 
 same-length-2 : tie.Need-same-length-2
@@ -124,7 +132,8 @@ break-branches-requires c κs =
         s .pre .1 .0,
         (
           s .pre .1 .1 .0,
-          other-break (s .args .rows .now) _ (s .pre .0 .body .details _ (s .pre .1 .1 .0)) (s .pre .1 .1 .1) (λ e. if2 .left (detail .ensures ∙ e)) (λ e. if3 .left (detail .ensures ∙ e)),
+          other-break (s .args .rows .now) _ (s .pre .0 .body .details _ (s .pre .1 .1 .0)) (s .pre .1 .1 .1) (λ e. if2 .left (detail .ensures ∙ e))
+              (λ e. if3 .left (detail .ensures ∙ e)),
           some-name _ _ (name .ensures) (if1 .left),
         ),
       ),

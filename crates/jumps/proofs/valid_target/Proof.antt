@@ -59,7 +59,8 @@ returns-2 c =
     let detail = c .before .before .detail in
     let if2 = c .before .if2 in
     valid-break (s .pre .0 .body) _ (s .pre .1 .1 .0) _ (enclosing-target .ensures) (if1 .left) _ (kind .ensures) _
-    (zero-break (s .args .rows .now) _ (s .pre .0 .body .details _ (s .pre .1 .1 .0)) (s .pre .1 .1 .1) (sym (detail .ensures) ∙ if2 .taken)) (c .is-breakable .ensures)
+    (zero-break (s .args .rows .now) _ (s .pre .0 .body .details _ (s .pre .1 .1 .0)) (s .pre .1 .1 .1) (sym (detail .ensures) ∙ if2 .taken))
+    (c .is-breakable .ensures)
 
 returns-3 : tie.Need-returns-3
 returns-3 c =
@@ -70,7 +71,8 @@ returns-3 c =
     let if2 = c .before .if2 in
     let detail = c .before .before .detail in
     valid-continue (s .pre .0 .body) _ (s .pre .1 .1 .0) _ (enclosing-target .ensures) (if1 .left) _ (kind .ensures) _
-    (not-zero-continue (s .args .rows .now) _ (s .pre .0 .body .details _ (s .pre .1 .1 .0)) (s .pre .1 .1 .1) (λ e. if2 .left (detail .ensures ∙ e))) (c .is-loop .ensures)
+    (not-zero-continue (s .args .rows .now) _ (s .pre .0 .body .details _ (s .pre .1 .1 .0)) (s .pre .1 .1 .1) (λ e. if2 .left (detail .ensures ∙ e)))
+    (c .is-loop .ensures)
 
 pub valid-target-spec : {M : Type 1} → statement M
 valid-target-spec =

@@ -1,4 +1,5 @@
--- Where no row has a name, as where there are no pairs, nothing is reported and the cleared bindings are right. Else the walk does both, over tables of 0 that have room for the body.
+-- Where no row has a name, as where there are no pairs, nothing is reported and the cleared bindings are right. Else the walk does both, over tables
+-- of 0 that have room for the body.
 -- Assumes nothing.
 use native.Mathlib.Omega.{arith}
 use Rattle.label.proofs.NamelessRows.{no-pairs}

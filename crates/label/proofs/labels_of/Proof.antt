@@ -45,7 +45,9 @@ same-length-2 : tie.Need-same-length-2
 same-length-2 c = c .before .bindings .given
 
 returns-3 : tie.Need-returns-3
-returns-3 c = call-answered _ _ _ _ _ (sym (at-start-4 c .pre)) _ _ _ (at-if1-1 c .if1 .left) (at-faults-1 c .before .before .before .if2 .left) (at-faults-1 c .faults .ensures)
+returns-3 c =
+    call-answered _ _ _ _ _ (sym (at-start-4 c .pre)) _ _ _ (at-if1-1 c .if1 .left) (at-faults-1 c .before .before .before .if2 .left)
+    (at-faults-1 c .faults .ensures)
 
 pub labels-of-spec : {M : Type 1} → statement M
 labels-of-spec =

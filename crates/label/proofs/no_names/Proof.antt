@@ -33,8 +33,11 @@ loop-less c = omega arith
 
 loop-again : tie.Need-loop-again Inv-loop μ-loop
 loop-again c =
-    let i = c .before .before .before .loop .inv in
-    (omega (arith, c .before .before .loop-test .taken), nameless-more (c .before .before .before .before .before .args .rows .now) (c .before .before .before .loop .r) (i .1) (sym (c .before .name-word .ensures) ∙ c .if1 .left))
+    let i = c .before .before .before .loop .inv in (
+      omega (arith, c .before .before .loop-test .taken),
+      nameless-more (c .before .before .before .before .before .args .rows .now) (c .before .before .before .loop .r) (i .1)
+          (sym (c .before .name-word .ensures) ∙ c .if1 .left),
+    )
 
 returns-2 : tie.Need-returns-2 Inv-loop μ-loop
 returns-2 c _ k h = c .before .loop .inv .1 k (omega (arith, c .loop-test .left))

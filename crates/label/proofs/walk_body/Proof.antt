@@ -109,7 +109,10 @@ unused-requires c κs =
     let a = walked-end (s .pre .0) _ _ _ _ _ _ _ (at-rows-branches-3 c .rows-branches .ensures) in
     let e = at-unresolved-1 c .unresolved .ensures in (
       (s .pre .0, at-declared-table-3 c .declared-table .ensures, e .1),
-      (tables-room (s .pre .1) _ _ (at-goto-or-label-1 c .before .before .heads .given) (at-goto-or-label-1 c .goto-or-label .given), unused-start _ _ _ _ _ a (e .0)),
+      (
+        tables-room (s .pre .1) _ _ (at-goto-or-label-1 c .before .before .heads .given) (at-goto-or-label-1 c .goto-or-label .given),
+        unused-start _ _ _ _ _ a (e .0),
+      ),
     )
 
 same-length : tie.Need-same-length
@@ -144,7 +147,8 @@ same-length-10 c = at-used-1 c .used .given
 
 returns : tie.Need-returns
 returns c =
-    walked-answered (at-start-6 c .pre .0) _ _ _ _ _ _ _ _ _ _ _ (at-lists-1 c .before .rows-branches .ensures) (at-used-1 c .before .before .before .unresolved .ensures .0) (at-heads2-1 c .before .unused .ensures)
+    walked-answered (at-start-6 c .pre .0) _ _ _ _ _ _ _ _ _ _ _ (at-lists-1 c .before .rows-branches .ensures)
+    (at-used-1 c .before .before .before .unresolved .ensures .0) (at-heads2-1 c .before .unused .ensures)
 
 pub walk-body-spec : {M : Type 1} → statement M
 walk-body-spec =

@@ -64,9 +64,11 @@ wide-requires-2 : tie.Need-wide-requires-2 Inv-loop μ-loop
 wide-requires-2 c κs = search needs
 
 -- what is known of the name once the word of its label is read
-at-name : (c : tie.After-wide2 Inv-loop μ-loop) → let a = c .before .before .before .before .before .before .before .before .before .before .before .before .args in
+at-name : (c : tie.After-wide2 Inv-loop μ-loop)
+    → let a = c .before .before .before .before .before .before .before .before .before .before .before .before .args in
     AtName (a .rows .now) (a .pairs .now) (a .bytes .now) (a .label-rows .now) (a .names .now) (a .sheet .now)
-    (c .before .before .before .before .before .loop .sheet) (c .before .before .before .before .before .loop .j) (c .before .before .before .before .before .loop .at) (c .before .before .wide .result) (c .wide2 .result)
+    (c .before .before .before .before .before .loop .sheet) (c .before .before .before .before .before .loop .j)
+    (c .before .before .before .before .before .loop .at) (c .before .before .wide .result) (c .wide2 .result)
 at-name c =
     let p = at-start-2 (c .before) .pre in
     record {

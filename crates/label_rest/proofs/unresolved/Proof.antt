@@ -1,4 +1,5 @@
--- The loop's invariant: the state of the pass at row r, from the sheet at entry, and the table's length. The measure is the rows that are left. Each turn is one law.
+-- The loop's invariant: the state of the pass at row r, from the sheet at entry, and the table's length. The measure is the rows that are left. Each
+-- turn is one law.
 -- Assumes nothing.
 use mathlib.Core.Path.{_≡_, refl, sym, _∙_}
 use mathlib.Core.Logic.{⊎-elim}

@@ -1,4 +1,5 @@
--- Each way out is one law of the row: the branch is bound to the declared label of its name, or to another, is no goto, or is a goto that is pending at the end.
+-- Each way out is one law of the row: the branch is bound to the declared label of its name, or to another, is no goto, or is a goto that is pending
+-- at the end.
 -- Assumes nothing.
 use mathlib.Core.Path.{_≡_, sym, _∙_}
 use mathlib.Core.Logic.{⊎-elim}
@@ -127,7 +128,8 @@ same-length-3 c = search needs
 returns-4 : tie.Need-returns-4
 returns-4 c =
     let e = at-if3-1 (c .before .before .before) in
-    over-declared (branch (e .before .before .before)) (e .before .before .if1 .left) (goto-detail e) (at-if5-1 c .before .before .if4 .taken) (at-if5-1 c .if5 .taken) _ (c .before .before .put .ensures)
+    over-declared (branch (e .before .before .before)) (e .before .before .if1 .left) (goto-detail e) (at-if5-1 c .before .before .if4 .taken)
+    (at-if5-1 c .if5 .taken) _ (c .before .before .put .ensures)
 
 put-requires-2 : tie.Need-put-requires-2
 put-requires-2 c κs =
@@ -146,7 +148,8 @@ returns-5 : tie.Need-returns-5
 returns-5 c =
     let e = at-if4-1 c .before in
     ⊎-elim
-    (λ x. over-undeclared (branch (e .before .before .before)) (e .before .before .if1 .left) (goto-detail e) (x .0 .taken) (x .2 .left) _ (c .before .before .put2 .ensures))
+    (λ x. over-undeclared (branch (e .before .before .before)) (e .before .before .if1 .left) (goto-detail e) (x .0 .taken) (x .2 .left) _
+    (c .before .before .put2 .ensures))
     (λ x. over-blank (branch (e .before .before .before)) (e .before .before .if1 .left) (goto-detail e) (x .left) _ (c .before .before .put2 .ensures))
     (at-if4-1 c .if4 .came)
 

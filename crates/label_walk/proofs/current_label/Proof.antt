@@ -72,25 +72,35 @@ size-requires : tie.Need-size-requires
 size-requires c κs =
     let s = at-start-2 (c .before .before .before) in
     let i = s .pre .1 .1 in
-    label-row (s .pre .0) (i .0) (i .1) (s .pre .1 .0) _ (at-wide-1 c .wide .ensures) (c .before .before .before .if1 .left) _ (c .wide2 .ensures) (λ z. c .before .if2 .left (sym (c .wide2 .ensures) ∙ z))
+    label-row (s .pre .0) (i .0) (i .1) (s .pre .1 .0) _ (at-wide-1 c .wide .ensures) (c .before .before .before .if1 .left) _ (c .wide2 .ensures)
+    (λ z. c .before .if2 .left (sym (c .wide2 .ensures) ∙ z))
 
 add-if3 : tie.Need-add-if3
 add-if3 c =
     let s = at-start-3 c in
     let i = s .pre .1 .1 in
-    omega (arith, label-fits (s .pre .0) (i .0) (i .1) (s .pre .1 .0) _ (at-wide-1 (c .before) .wide .ensures) (at-if1-1 c .if1 .left) _ (c .before .wide2 .ensures) (λ z. c .before .before .if2 .left (sym (c .before .wide2 .ensures) ∙ z)) _ (c .size .ensures))
+    omega (
+      arith,
+      label-fits (s .pre .0) (i .0) (i .1) (s .pre .1 .0) _ (at-wide-1 (c .before) .wide .ensures) (at-if1-1 c .if1 .left) _
+          (c .before .wide2 .ensures) (λ z. c .before .before .if2 .left (sym (c .before .wide2 .ensures) ∙ z)) _ (c .size .ensures),
+    )
 
 returns-3 : tie.Need-returns-3
 returns-3 c =
     let s = at-start-3 (c .before) in
     let i = s .pre .1 .1 in
-    ended (s .pre .0) (i .0) (i .1) (s .pre .1 .0) _ (at-wide-1 (c .before .before) .wide .ensures) (at-if1-1 (c .before) .if1 .left) _ (c .before .before .wide2 .ensures) (λ z. c .before .before .before .if2 .left (sym (c .before .before .wide2 .ensures) ∙ z)) _ (c .before .size .ensures) (omega (arith, c .if3 .taken))
+    ended (s .pre .0) (i .0) (i .1) (s .pre .1 .0) _ (at-wide-1 (c .before .before) .wide .ensures) (at-if1-1 (c .before) .if1 .left) _
+    (c .before .before .wide2 .ensures) (λ z. c .before .before .before .if2 .left (sym (c .before .before .wide2 .ensures) ∙ z)) _
+    (c .before .size .ensures) (omega (arith, c .if3 .taken))
 
 returns-4 : tie.Need-returns-4
 returns-4 c =
     let s = at-start-3 (c .before) in
     let i = s .pre .1 .1 in
-    sym (c .before .before .wide2 .ensures) ∙ current (s .pre .0) (i .0) (i .1) (s .pre .1 .0) _ (at-wide-1 (c .before .before) .wide .ensures) (at-if1-1 (c .before) .if1 .left) _ (c .before .before .wide2 .ensures) (λ z. c .before .before .before .if2 .left (sym (c .before .before .wide2 .ensures) ∙ z)) _ (c .before .size .ensures) (c .if3 .left)
+    sym (c .before .before .wide2 .ensures)
+    ∙ current (s .pre .0) (i .0) (i .1) (s .pre .1 .0) _ (at-wide-1 (c .before .before) .wide .ensures) (at-if1-1 (c .before) .if1 .left) _
+    (c .before .before .wide2 .ensures) (λ z. c .before .before .before .if2 .left (sym (c .before .before .wide2 .ensures) ∙ z)) _
+    (c .before .size .ensures) (c .if3 .left)
 
 pub current-label-spec : {M : Type 1} → statement M
 current-label-spec =

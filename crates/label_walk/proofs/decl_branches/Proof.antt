@@ -38,7 +38,11 @@ cast-latest-decls : tie.Need-cast-latest-decls
 cast-latest-decls c =
     let s = at-start-1 (c .before .before .before) in
     let i = s .pre .1 .1 in
-    omega (arith, declared-fits (s .pre .0) (i .0) (s .pre .1 .0) (i .1) _ (at-wide-1 c .wide .ensures) (c .before .before .context-of .result) _ (c .before .declared .ensures))
+    omega (
+      arith,
+      declared-fits (s .pre .0) (i .0) (s .pre .1 .0) (i .1) _ (at-wide-1 c .wide .ensures) (c .before .before .context-of .result) _
+          (c .before .declared .ensures),
+    )
 
 sub-latest-decls : tie.Need-sub-latest-decls
 sub-latest-decls c =

@@ -1,4 +1,5 @@
--- A row with the canonical number 0 is `_`, which is no label: nothing changes. Any other is a label, the latest of its list: `labelled` puts it into the list's context and
+-- A row with the canonical number 0 is `_`, which is no label: nothing changes. Any other is a label, the latest of its list: `labelled` puts it into
+-- the list's context and
 -- leaves the latest declaration there, which `label_branches` gets.
 -- Assumes nothing.
 use native.Mathlib.Omega.{arith}
@@ -51,8 +52,10 @@ canon-of-requires c κs =
 returns : tie.Need-returns
 returns c =
     let s = at-start-1 (c .before .before) in
-    let i = s .pre .1 .1 in
-    (labeled-passed (i .1 .0) (s .pre .1 .0) (i .1 .1) (blank (s .pre .0) (i .1 .0) (i .1 .1) (i .0) _ (c .before .canon-of .ensures) (c .if1 .taken)), unlabelled (s .pre .0) (i .1 .0) (i .1 .1) (i .0) _ (c .before .canon-of .ensures) (c .if1 .taken))
+    let i = s .pre .1 .1 in (
+      labeled-passed (i .1 .0) (s .pre .1 .0) (i .1 .1) (blank (s .pre .0) (i .1 .0) (i .1 .1) (i .0) _ (c .before .canon-of .ensures) (c .if1 .taken)),
+      unlabelled (s .pre .0) (i .1 .0) (i .1 .1) (i .0) _ (c .before .canon-of .ensures) (c .if1 .taken),
+    )
 
 mul-wide : tie.Need-mul-wide
 mul-wide c =
@@ -85,32 +88,59 @@ cast-latest-labels : tie.Need-cast-latest-labels
 cast-latest-labels c =
     let s = at-start-2 (c .before .before .before) in
     let i = s .pre .1 .1 in
-    omega (arith, labelled-fits (s .pre .0) (i .1 .0) (i .1 .1) (i .0) _ (at-canon-of-1 (c .before .before .before) .canon-of .ensures) (at-wide-1 c .before .before .if1 .left) _ (at-wide-1 c .wide .ensures) (c .before .before .context-of .result) _ (c .before .labelled .ensures))
+    omega (
+      arith,
+      labelled-fits (s .pre .0) (i .1 .0) (i .1 .1) (i .0) _ (at-canon-of-1 (c .before .before .before) .canon-of .ensures)
+          (at-wide-1 c .before .before .if1 .left) _ (at-wide-1 c .wide .ensures) (c .before .before .context-of .result) _ (c .before .labelled .ensures),
+    )
 
 sub-latest-labels : tie.Need-sub-latest-labels
 sub-latest-labels c =
     let s = at-start-2 (c .before .before .before) in
     let i = s .pre .1 .1 in
-    omega (arith, label-list (s .pre .0) (i .1 .0) (i .1 .1) (i .0) _ (at-canon-of-1 (c .before .before .before) .canon-of .ensures) (at-wide-1 c .before .before .if1 .left) _ (at-wide-1 c .wide .ensures) .0)
+    omega (
+      arith,
+      label-list (s .pre .0) (i .1 .0) (i .1 .1) (i .0) _ (at-canon-of-1 (c .before .before .before) .canon-of .ensures)
+          (at-wide-1 c .before .before .if1 .left) _ (at-wide-1 c .wide .ensures) .0,
+    )
 
 mul-latest-labels : tie.Need-mul-latest-labels
 mul-latest-labels c =
     let s = at-start-2 (c .before .before .before) in
     let i = s .pre .1 .1 in
-    omega (arith, label-list (s .pre .0) (i .1 .0) (i .1 .1) (i .0) _ (at-canon-of-1 (c .before .before .before) .canon-of .ensures) (at-wide-1 c .before .before .if1 .left) _ (at-wide-1 c .wide .ensures) .1)
+    omega (
+      arith,
+      label-list (s .pre .0) (i .1 .0) (i .1 .1) (i .0) _ (at-canon-of-1 (c .before .before .before) .canon-of .ensures)
+          (at-wide-1 c .before .before .if1 .left) _ (at-wide-1 c .wide .ensures) .1,
+    )
 
 slice-write-latest-labels : tie.Need-slice-write-latest-labels
 slice-write-latest-labels c =
     let s = at-start-2 (c .before .before .before) in
     let i = s .pre .1 .1 in
-    let l = label-list (s .pre .0) (i .1 .0) (i .1 .1) (i .0) _ (at-canon-of-1 (c .before .before .before) .canon-of .ensures) (at-wide-1 c .before .before .if1 .left) _ (at-wide-1 c .wide .ensures) in
+    let l = label-list (s .pre .0) (i .1 .0) (i .1 .1) (i .0) _ (at-canon-of-1 (c .before .before .before) .canon-of .ensures)
+    (at-wide-1 c .before .before .if1 .left) _ (at-wide-1 c .wide .ensures) in
     omega (arith, l .0, l .3)
 
 label-branches-requires : tie.Need-label-branches-requires
 label-branches-requires c κs =
     let s = at-start-3 c in
-    let i = s .pre .1 .1 in
-    (s .pre .0, (s .pre .1 .0, ((i .1 .0, labels (s .pre .0) (i .1 .0) (i .1 .1) (i .0) _ (at-if1-1 c .before .canon-of .ensures) (at-if1-1 c .if1 .left) _ (at-wide-1 (c .before .before .before) .wide .ensures)), label-latest (s .pre .0) (i .1 .0) (i .1 .1) (i .0) _ (at-if1-1 c .before .canon-of .ensures) (at-if1-1 c .if1 .left) _ (at-wide-1 (c .before .before .before) .wide .ensures) (at-labelled-1 c .before .context-of .result) _ (at-labelled-1 c .labelled .ensures) (at-labelled-1 c .before .context-of .ensures .0))))
+    let i = s .pre .1 .1 in (
+      s .pre .0,
+      (
+        s .pre .1 .0,
+        (
+          (
+            i .1 .0,
+            labels (s .pre .0) (i .1 .0) (i .1 .1) (i .0) _ (at-if1-1 c .before .canon-of .ensures) (at-if1-1 c .if1 .left) _
+                (at-wide-1 (c .before .before .before) .wide .ensures),
+          ),
+          label-latest (s .pre .0) (i .1 .0) (i .1 .1) (i .0) _ (at-if1-1 c .before .canon-of .ensures) (at-if1-1 c .if1 .left) _
+              (at-wide-1 (c .before .before .before) .wide .ensures) (at-labelled-1 c .before .context-of .result) _ (at-labelled-1 c .labelled .ensures)
+              (at-labelled-1 c .before .context-of .ensures .0),
+        ),
+      ),
+    )
 
 same-length : tie.Need-same-length
 same-length c = at-sheet-1 c .sheet .given
@@ -127,8 +157,11 @@ same-length-4 c = search needs
 returns-2 : tie.Need-returns-2
 returns-2 c =
     let s = at-start-4 c in
-    let i = s .pre .1 .1 in
-    (at-sheet-1 c .before .label-branches .ensures, labelled (s .pre .0) (i .1 .0) (i .1 .1) (i .0) _ (at-if1-2 c .before .canon-of .ensures) (at-if1-2 c .if1 .left) _ (at-labelled-2 c .before .before .before .wide .ensures) (at-labelled-2 c .before .context-of .result) _ (at-labelled-2 c .labelled .ensures))
+    let i = s .pre .1 .1 in (
+      at-sheet-1 c .before .label-branches .ensures,
+      labelled (s .pre .0) (i .1 .0) (i .1 .1) (i .0) _ (at-if1-2 c .before .canon-of .ensures) (at-if1-2 c .if1 .left) _
+          (at-labelled-2 c .before .before .before .wide .ensures) (at-labelled-2 c .before .context-of .result) _ (at-labelled-2 c .labelled .ensures),
+    )
 
 pub labeled-branches-spec : {M : Type 1} → statement M
 labeled-branches-spec =

@@ -45,7 +45,8 @@ at-may-declare-1 c = c .before .before .before .before .before
 decl-branches-requires : tie.Need-decl-branches-requires
 decl-branches-requires c κs =
     let s = at-start-4 c in
-    declared-asks (s .pre .0) _ (s .pre .1 .1 .0) (s .pre .1 .0) _ (at-detail-1 c .before .kind .ensures) _ (at-detail-1 c .detail .ensures) (c .before .before .before .if1 .taken) (c .before .before .may-declare .ensures) (c .before .if2 .taken)
+    declared-asks (s .pre .0) _ (s .pre .1 .1 .0) (s .pre .1 .0) _ (at-detail-1 c .before .kind .ensures) _ (at-detail-1 c .detail .ensures)
+    (c .before .before .before .if1 .taken) (c .before .before .may-declare .ensures) (c .before .if2 .taken)
 
 same-length : tie.Need-same-length
 same-length c = search needs
@@ -53,17 +54,21 @@ same-length c = search needs
 returns : tie.Need-returns
 returns c =
     let s = at-start-4 (c .before .before .before) in
-    declared-gives (s .pre .0) _ (s .pre .1 .1 .0) (s .pre .1 .0) _ (at-may-declare-1 c .before .before .before .kind .ensures) _ (at-may-declare-1 c .before .before .detail .ensures) (at-may-declare-1 c .before .if1 .taken) (at-may-declare-1 c .may-declare .ensures) (c .before .before .decl-branches .ensures)
+    declared-gives (s .pre .0) _ (s .pre .1 .1 .0) (s .pre .1 .0) _ (at-may-declare-1 c .before .before .before .kind .ensures) _
+    (at-may-declare-1 c .before .before .detail .ensures) (at-may-declare-1 c .before .if1 .taken) (at-may-declare-1 c .may-declare .ensures)
+    (c .before .before .decl-branches .ensures)
 
 returns-2 : tie.Need-returns-2
 returns-2 c =
     let s = at-start-2 c in
-    undeclared-gives (s .pre .0) _ (s .pre .1 .1 .0) (s .pre .1 .0) _ (at-kind-1 c .kind .ensures) _ (c .before .before .before .detail .ensures) (c .before .before .if1 .taken) (c .before .may-declare .ensures) (c .if2 .left)
+    undeclared-gives (s .pre .0) _ (s .pre .1 .1 .0) (s .pre .1 .0) _ (at-kind-1 c .kind .ensures) _ (c .before .before .before .detail .ensures)
+    (c .before .before .if1 .taken) (c .before .may-declare .ensures) (c .if2 .left)
 
 set-block-label-requires : tie.Need-set-block-label-requires
 set-block-label-requires c κs =
     let s = at-start-3 c in
-    block-asks (s .pre .0) _ (s .pre .1 .1 .0) (s .pre .1 .0) _ (at-kind-2 c .kind .ensures) _ (c .before .before .before .detail .ensures) (s .args .goto-or-label .now) (s .pre .1 .1 .1) (c .before .if3 .taken)
+    block-asks (s .pre .0) _ (s .pre .1 .1 .0) (s .pre .1 .0) _ (at-kind-2 c .kind .ensures) _ (c .before .before .before .detail .ensures)
+    (s .args .goto-or-label .now) (s .pre .1 .1 .1) (c .before .if3 .taken)
 
 same-length-2 : tie.Need-same-length-2
 same-length-2 c = search needs
@@ -71,12 +76,14 @@ same-length-2 c = search needs
 returns-3 : tie.Need-returns-3
 returns-3 c =
     let s = at-start-3 (c .before .before .before) in
-    block-gives (s .pre .0) _ (s .pre .1 .1 .0) (s .pre .1 .0) _ (at-kind-2 (c .before .before .before) .kind .ensures) _ (at-if3-1 c .before .before .detail .ensures) (at-if3-1 c .before .if1 .left) (at-if3-1 c .if3 .taken) (c .before .before .set-block-label .ensures)
+    block-gives (s .pre .0) _ (s .pre .1 .1 .0) (s .pre .1 .0) _ (at-kind-2 (c .before .before .before) .kind .ensures) _
+    (at-if3-1 c .before .before .detail .ensures) (at-if3-1 c .before .if1 .left) (at-if3-1 c .if3 .taken) (c .before .before .set-block-label .ensures)
 
 returns-4 : tie.Need-returns-4
 returns-4 c =
     let s = at-start-1 c in
-    other-gives (s .pre .0) _ (s .pre .1 .1 .0) (s .pre .1 .0) _ (c .before .before .before .kind .ensures) _ (c .before .before .detail .ensures) (c .before .if1 .left) (c .if3 .left)
+    other-gives (s .pre .0) _ (s .pre .1 .1 .0) (s .pre .1 .0) _ (c .before .before .before .kind .ensures) _ (c .before .before .detail .ensures)
+    (c .before .if1 .left) (c .if3 .left)
 
 pub plain-branches-spec : {M : Type 1} → statement M
 plain-branches-spec =

@@ -13,12 +13,15 @@ use Rattle.label_walk.proofs.rows_branches.Statement.{statement}
 use Rattle.label_walk.proofs.rows_branches.Tie as tie
 
 abbrev Inv-loop : tie.InvT-loop
-Inv-loop rows pairs bytes canonical label-rows lists₀ sheet₀ bindings₀ heads₀ goto-or-label₀ latest-decls₀ latest-labels₀ count around₀ faults₀ r₀ lists sheet bindings heads goto-or-label latest-decls latest-labels around faults r =
-    Turn rows pairs bytes r faults sheet₀ bindings₀ heads₀ goto-or-label₀ latest-decls₀ latest-labels₀ sheet bindings heads goto-or-label latest-decls latest-labels
+Inv-loop rows pairs bytes canonical label-rows lists₀ sheet₀ bindings₀ heads₀ goto-or-label₀ latest-decls₀ latest-labels₀ count around₀ faults₀ r₀ lists sheet
+    bindings heads goto-or-label latest-decls latest-labels around faults r =
+    Turn rows pairs bytes r faults sheet₀ bindings₀ heads₀ goto-or-label₀ latest-decls₀ latest-labels₀ sheet bindings heads goto-or-label latest-decls
+    latest-labels
     × (length lists ≡ length lists₀) × InHand rows (around .list) (around .end) r × ListedBelow rows lists r
 
 abbrev μ-loop : tie.MeasureT-loop
-μ-loop rows pairs bytes canonical label-rows lists₀ sheet₀ bindings₀ heads₀ goto-or-label₀ latest-decls₀ latest-labels₀ count around₀ faults₀ r₀ lists sheet bindings heads goto-or-label latest-decls latest-labels around faults r =
+μ-loop rows pairs bytes canonical label-rows lists₀ sheet₀ bindings₀ heads₀ goto-or-label₀ latest-decls₀ latest-labels₀ count around₀ faults₀ r₀ lists sheet
+    bindings heads goto-or-label latest-decls latest-labels around faults r =
     rowCount rows - r
 
 -- ---- points of the code that the answers below go back to
@@ -61,7 +64,13 @@ list-at-requires c κs =
     ((t .body .sized, i .2, i .3), (c .before .loop-test .taken, omega (arith, t .lists-room, i .1)))
 
 cast-lists : tie.Need-cast-lists Inv-loop μ-loop
-cast-lists c = omega (arith, open-found _ _ _ (c .before .list-at .ensures .0) .before, c .before .before .before .loop-test .taken, at-start-2 c .pre .0 .body .most-rows)
+cast-lists c =
+    omega (
+      arith,
+      open-found _ _ _ (c .before .list-at .ensures .0) .before,
+      c .before .before .before .loop-test .taken,
+      at-start-2 c .pre .0 .body .most-rows,
+    )
 
 mul-lists : tie.Need-mul-lists Inv-loop μ-loop
 mul-lists c = omega (arith, c .before .before .before .loop-test .taken, at-start-2 c .pre .0 .body .most-rows)
@@ -89,8 +98,14 @@ loop-again c =
     let l = at-list-at-2 c .before .before .before .loop in
     let i = l .inv in
     let y = at-stmt-branches-1 c .stmt-branches .ensures in
-    let n = lists-next (s .args .rows .now) (l .lists) (s .args .lists .now) (l .r) _ (i .1) (s .pre .0 .lists-room) (at-list-at-2 c .before .before .loop-test .taken) (at-list-at-2 c .list-at .ensures .0) (i .3) in
-    (turn-next (i .0) (y .0) (y .1 .0) (at-goto-or-label-1 c .before .before .heads .given) (at-goto-or-label-1 c .goto-or-label .given) (c .before .before .before .latest-decls .given) (c .before .latest-labels .given), n .0, y .1 .1, n .1)
+    let n = lists-next (s .args .rows .now) (l .lists) (s .args .lists .now) (l .r) _ (i .1) (s .pre .0 .lists-room)
+    (at-list-at-2 c .before .before .loop-test .taken) (at-list-at-2 c .list-at .ensures .0) (i .3) in (
+      turn-next (i .0) (y .0) (y .1 .0) (at-goto-or-label-1 c .before .before .heads .given) (at-goto-or-label-1 c .goto-or-label .given)
+          (c .before .before .before .latest-decls .given) (c .before .latest-labels .given),
+      n .0,
+      y .1 .1,
+      n .1,
+    )
 
 same-length : tie.Need-same-length Inv-loop μ-loop
 same-length c = c .before .loop .inv .1

@@ -86,7 +86,8 @@ returns c =
     let s = at-start-7 c in
     let k = at-match-5 c .match .keys1 in
     let e = at-match-5 c .before .kind .ensures in
-    let g = labeled-gives (s .pre .0) _ (s .pre .1 .1 .1 .0) (s .pre .1 .0) (s .pre .1 .1 .0) _ e k (at-bindings-1 c .before .before .before .labeled-branches .ensures) in
+    let g = labeled-gives (s .pre .0) _ (s .pre .1 .1 .1 .0) (s .pre .1 .0) (s .pre .1 .1 .0) _ e k
+    (at-bindings-1 c .before .before .before .labeled-branches .ensures) in
     (g .0, (g .1, passes (s .pre .0) _ (s .pre .1 .1 .1 .0) (s .pre .1 .0) (s .pre .1 .1 .0) _ e (inl k) (s .pre .1 .1 .1 .1)))
 
 jump-branches-requires : tie.Need-jump-branches-requires
@@ -111,7 +112,8 @@ returns-2 c =
     let s = at-start-6 c in
     let k = at-match-4 c .match .keys2 in
     let e = at-match-4 c .before .kind .ensures in
-    let g = branch-gives (s .pre .0) _ (s .pre .1 .1 .1 .0) (s .pre .1 .0) (s .pre .1 .1 .0) _ e k (at-bindings2-1 c .before .before .before .jump-branches .ensures) in
+    let g = branch-gives (s .pre .0) _ (s .pre .1 .1 .1 .0) (s .pre .1 .0) (s .pre .1 .1 .0) _ e k
+    (at-bindings2-1 c .before .before .before .jump-branches .ensures) in
     (g .0, (g .1, passes (s .pre .0) _ (s .pre .1 .1 .1 .0) (s .pre .1 .0) (s .pre .1 .1 .0) _ e (inr k) (s .pre .1 .1 .1 .1)))
 
 plain-branches-requires : tie.Need-plain-branches-requires
@@ -137,7 +139,8 @@ same-length-13 c = refl
 returns-3 : tie.Need-returns-3
 returns-3 c =
     let s = at-start-5 (c .before) in
-    let g = plain-gives (s .pre .0) _ (s .pre .1 .1 .1 .0) (s .pre .1 .0) (s .pre .1 .1 .0) _ (at-match-3 c .before .kind .ensures) (at-match-3 c .match .rest) (at-goto-or-label2-1 c .before .plain-branches .ensures) in
+    let g = plain-gives (s .pre .0) _ (s .pre .1 .1 .1 .0) (s .pre .1 .0) (s .pre .1 .1 .0) _ (at-match-3 c .before .kind .ensures)
+    (at-match-3 c .match .rest) (at-goto-or-label2-1 c .before .plain-branches .ensures) in
     (g .0, (g .1, c .list-after .ensures))
 
 pub stmt-branches-spec : {M : Type 1} → statement M

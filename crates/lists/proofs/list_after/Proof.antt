@@ -47,8 +47,10 @@ add-t9 c = omega (arith, at-start-2 c .pre .0)
 
 returns-2 : tie.Need-returns-2
 returns-2 c =
-    let s = at-start-2 c in
-    (open-more _ _ _ _ (own (c .before .before)) (s .pre .1 .0) _ (inl (not-false _ (c .before .if1 .left), refl)), ends-here (s .args .rows .now) _ _ (c .size .ensures))
+    let s = at-start-2 c in (
+      open-more _ _ _ _ (own (c .before .before)) (s .pre .1 .0) _ (inl (not-false _ (c .before .if1 .left), refl)),
+      ends-here (s .args .rows .now) _ _ (c .size .ensures),
+    )
 
 pub list-after-spec : {M : Type 1} → statement M
 list-after-spec = tie.close (tie.spec kind-requires holds-items-requires returns size-requires add-end add-t9 returns-2)

@@ -15,7 +15,8 @@ still-open-requires : tie.Need-still-open-requires
 still-open-requires c κs = let p = c .before .before .before .before .pre in ((p .0 .0, p .0 .1 .0, p .0 .2), p .1)
 
 end-of-requires : tie.Need-end-of-requires
-end-of-requires c κs = let p = c .before .before .before .before .before .pre in (p .0 .0, omega (arith, p .1, open-found _ _ _ (c .still-open .ensures) .before))
+end-of-requires c κs =
+    let p = c .before .before .before .before .before .pre in (p .0 .0, omega (arith, p .1, open-found _ _ _ (c .still-open .ensures) .before))
 
 returns-2 : tie.Need-returns-2
 returns-2 c = (c .before .still-open .ensures, c .end-of .ensures)

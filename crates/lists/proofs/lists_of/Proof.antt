@@ -37,7 +37,13 @@ list-at-requires c κs =
     ((p .0 .0, v .2, v .3), (c .before .loop-test .taken, omega (arith, p .1, v .1)))
 
 cast-lists : tie.Need-cast-lists Inv-loop μ-loop
-cast-lists c = omega (arith, open-found _ _ _ (c .before .list-at .ensures .0) .before, c .before .before .before .loop-test .taken, at-start-1 (c .before .before) .pre .1)
+cast-lists c =
+    omega (
+      arith,
+      open-found _ _ _ (c .before .list-at .ensures .0) .before,
+      c .before .before .before .loop-test .taken,
+      at-start-1 (c .before .before) .pre .1,
+    )
 
 mul-lists : tie.Need-mul-lists Inv-loop μ-loop
 mul-lists c = omega arith
@@ -60,8 +66,12 @@ loop-again : tie.Need-loop-again Inv-loop μ-loop
 loop-again c =
     let l = at-loop-1 (c .before) .loop in
     let p = at-start-1 (c .before .before .before) .pre in
-    let here : l .r < length (l .lists) = omega (arith, p .1, l .inv .1, at-loop-test-1 c .loop-test .taken) in
-    (omega (arith, at-loop-test-1 c .loop-test .taken), simp length-set (l .inv .1), c .list-after .ensures, listed-more _ (l .lists) _ _ here (c .before .before .list-at .ensures .0) (l .inv .3))
+    let here : l .r < length (l .lists) = omega (arith, p .1, l .inv .1, at-loop-test-1 c .loop-test .taken) in (
+      omega (arith, at-loop-test-1 c .loop-test .taken),
+      simp length-set (l .inv .1),
+      c .list-after .ensures,
+      listed-more _ (l .lists) _ _ here (c .before .before .list-at .ensures .0) (l .inv .3),
+    )
 
 same-length : tie.Need-same-length Inv-loop μ-loop
 same-length c = omega arith

@@ -3,7 +3,8 @@
 use native.Mathlib.Omega.{arith}
 use borrow.Author.Needs.{needs}
 use Rattle.walk_state.proofs.TableRows.{canon-place, declared-place}
-use Rattle.pending.proofs.LabelStep.{declare-asks, declare-leaves, left-within, head-place, the-chain, counting-asks, end-fits, resolve-asks, label-walked}
+use Rattle.pending.proofs.LabelStep.{declare-asks, declare-leaves, left-within, head-place, the-chain, counting-asks, end-fits, resolve-asks}
+use Rattle.pending.proofs.LabelStep.{label-walked}
 use Rattle.pending.proofs.label_branches.Statement.{statement}
 use Rattle.pending.proofs.label_branches.Tie as tie
 
@@ -96,7 +97,8 @@ add-end c =
     let s = at-start-1 (at-canon .before) in
     let own = declare-leaves (s .pre) (at-canon .canon-of .ensures) (at-declared .wide .ensures) (at-mine .declare .ensures) in
     let chain = the-chain (s .pre) (at-canon .canon-of .ensures) (at-list .wide2 .ensures) (at-head .wide3 .ensures) in
-    let fits = end-fits (s .pre) (at-canon .canon-of .ensures) (at-list .wide2 .ensures) (at-head .wide3 .ensures) own (c .count-jumps-over .ensures _ _ chain) in
+    let fits = end-fits (s .pre) (at-canon .canon-of .ensures) (at-list .wide2 .ensures) (at-head .wide3 .ensures) own
+    (c .count-jumps-over .ensures _ _ chain) in
     omega (arith, fits, at-mine .declare .kept, s .good)
 
 resolve-requires : tie.Need-resolve-requires

@@ -14,7 +14,8 @@ use Rattle.pending.proofs.resolve.Tie as tie
 
 abbrev Inv-loop : tie.InvT-loop
 Inv-loop rows sheet₀ bindings₀ goto-or-label head row list latest end at₀ g₀ sheet bindings at g =
-    (all : List ℕ) (last : ℕ) → Chain goto-or-label list head all last → Resolves rows sheet₀ bindings₀ goto-or-label sheet bindings head list latest end (row .0 + 1) at g all last
+    (all : List ℕ) (last : ℕ) → Chain goto-or-label list head all last
+    → Resolves rows sheet₀ bindings₀ goto-or-label sheet bindings head list latest end (row .0 + 1) at g all last
 
 abbrev μ-loop : tie.MeasureT-loop
 μ-loop rows sheet₀ bindings₀ goto-or-label head row list latest end at₀ g₀ sheet bindings at g = g

@@ -49,7 +49,9 @@ loop-again c =
     )
 
 returns-2 : tie.Need-returns-2 Inv-loop μ-loop
-returns-2 c e = none-found (c .before .before .before .args .rows .now) (c .before .loop .r) (c .before .loop .inv .1) (c .before .before .before .pre) (c .loop-test .left)
+returns-2 c e =
+    none-found (c .before .before .before .args .rows .now) (c .before .loop .r) (c .before .loop .inv .1) (c .before .before .before .pre)
+    (c .loop-test .left)
 
 pub all-labelled-spec : {M : Type 1} → statement M
 all-labelled-spec =

@@ -25,8 +25,13 @@ returns-2 c = named-not-bad _ _ _ (c .before .before .name .ensures) (c .if2 .ta
 well-placed-requires : tie.Need-well-placed-requires
 well-placed-requires c κs =
     let k = c .before .before .before .before in
-    let s = k .before .before .before in
-    (s .pre .0, ((s .pre .1 .0, sym (k .kind .ensures) ∙ c .before .before .before .if1 .left, sym (c .before .before .name .ensures) ∙ c .if2 .left), s .pre .1 .1))
+    let s = k .before .before .before in (
+      s .pre .0,
+      (
+        (s .pre .1 .0, sym (k .kind .ensures) ∙ c .before .before .before .if1 .left, sym (c .before .before .name .ensures) ∙ c .if2 .left),
+        s .pre .1 .1,
+      ),
+    )
 
 returns-3 : tie.Need-returns-3
 returns-3 c = ap not (c .well-placed .ensures) ∙ not-well-bad _ _ _ (c .before .before .before .name .ensures) (c .before .if2 .left)

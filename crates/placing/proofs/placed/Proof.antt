@@ -1,4 +1,5 @@
--- A body in which each Branch has a label has no row badly placed. Without lists the search finds the row of the definition, or comes to an unlabelled fallthrough.
+-- A body in which each Branch has a label has no row badly placed. Without lists the search finds the row of the definition, or comes to an
+-- unlabelled fallthrough.
 -- Assumes nothing.
 use mathlib.Core.Path.{sym, subst}
 use native.Mathlib.Omega.{arith}

@@ -69,7 +69,13 @@ marked-text-requires c κs =
     let m = at-bindings2-1 (c .before) .before .before .mark .ensures in
     let e = sym (ap given (at-m-1 c .m .given .1)) ∙ m .0 in (
       marked-room _ _ _ _ _ (enough _ 16000 2000 (omega arith) (omega arith) (omega arith)) _ _ _ e _ _ (m .1 .0) (m .1 .1),
-      (omega (arith, at-bindings2-1 (c .before) .before .sheet2 .given), (omega (arith, length-take (length (at-start-1 c .args .rows .now) / 5) (at-bindings2-1 (c .before) .before .before .mark .last .1 .1 .1 .1 .0)), omega arith)),
+      (
+        omega (arith, at-bindings2-1 (c .before) .before .sheet2 .given),
+        (
+          omega (arith, length-take (length (at-start-1 c .args .rows .now) / 5) (at-bindings2-1 (c .before) .before .before .mark .last .1 .1 .1 .1 .0)),
+          omega arith,
+        ),
+      ),
     )
 
 same-length : tie.Need-same-length
@@ -80,7 +86,8 @@ returns c =
     let m = at-mark-2 c .mark .ensures in
     let e = sym (ap given (at-index-of-1 c .before .before .before .r .given .1)) ∙ m .0 in
     let t = c .before .before .refused-text .ensures in (
-      t .0 ∙ ap (λ n. refusedText n (at-index-of-1 c .index-of .result)) (at-index-of-1 c .before .number-of .ensures) ∙ ap (refusedText _) (at-index-of-1 c .index-of .ensures)
+      t .0 ∙ ap (λ n. refusedText n (at-index-of-1 c .index-of .result)) (at-index-of-1 c .before .number-of .ensures)
+          ∙ ap (refusedText _) (at-index-of-1 c .index-of .ensures)
           ∙ refused-text _ _ _ _ _ (enough _ 16000 2000 (omega arith) (omega arith) (omega arith)) _ _ e,
       t .1,
     )

@@ -33,17 +33,22 @@ word-requires-2 : tie.Need-word-requires-2
 word-requires-2 c κs = search needs
 
 returns-3 : tie.Need-returns-3
-returns-3 c = refuses-names (now (at-word-1 c .before .before .args .file)) (λ e. omega (arith, at-word-1 c .word .ensures)) (omega (arith, at-word-1 c .word .ensures)) (omega (arith, c .before .word2 .ensures))
+returns-3 c =
+    refuses-names (now (at-word-1 c .before .before .args .file)) (λ e. omega (arith, at-word-1 c .word .ensures)) (omega (arith, at-word-1 c .word .ensures))
+    (omega (arith, c .before .word2 .ensures))
 
 word-requires-3 : tie.Need-word-requires-3
 word-requires-3 c κs = search needs
 
 returns-4 : tie.Need-returns-4
-returns-4 c = refuses-bytes (now (at-word-2 c .before .before .args .file)) (λ e. omega (arith, at-word-2 c .word .ensures)) (omega (arith, at-word-2 c .word .ensures)) (omega (arith, c .before .word3 .ensures))
+returns-4 c =
+    refuses-bytes (now (at-word-2 c .before .before .args .file)) (λ e. omega (arith, at-word-2 c .word .ensures)) (omega (arith, at-word-2 c .word .ensures))
+    (omega (arith, c .before .word3 .ensures))
 
 returns-5 : tie.Need-returns-5
 returns-5 c =
-    refuses-none (now (at-word-3 c .before .before .args .file)) (λ e. omega (arith, at-word-3 c .word .ensures)) (omega (arith, at-word-3 c .word .ensures)) (omega (arith, c .before .before .before .word2 .ensures))
+    refuses-none (now (at-word-3 c .before .before .args .file)) (λ e. omega (arith, at-word-3 c .word .ensures)) (omega (arith, at-word-3 c .word .ensures))
+    (omega (arith, c .before .before .before .word2 .ensures))
     (omega (arith, c .before .word3 .ensures))
 
 pub count-refusal-spec : {M : Type 1} → statement M

@@ -166,19 +166,24 @@ Known-at t c =
     Known (a .rows .now) (a .pairs .now) (a .bytes .now) t (a .row .0) (c .before .before .before .before .kind .result) (c .before .size .result)
 
 -- ---- points of the code that the answers below go back to
-abbrev has-break-at-start-1 : {t : ℕ} → has-break-lts.Then1 (has-break-calls t) (has-break-at t) has-break.Post → has-break-lts.Start (has-break-calls t) (has-break-at t) has-break.Post
+abbrev has-break-at-start-1 : {t : ℕ} → has-break-lts.Then1 (has-break-calls t) (has-break-at t) has-break.Post
+    → has-break-lts.Start (has-break-calls t) (has-break-at t) has-break.Post
 has-break-at-start-1 c = c .before .before .before .before .before
 
-abbrev has-break-at-start-2 : {t : ℕ} → has-break-lts.After-struct-known (has-break-calls t) (has-break-at t) has-break.Post → has-break-lts.Start (has-break-calls t) (has-break-at t) has-break.Post
+abbrev has-break-at-start-2 : {t : ℕ} → has-break-lts.After-struct-known (has-break-calls t) (has-break-at t) has-break.Post
+    → has-break-lts.Start (has-break-calls t) (has-break-at t) has-break.Post
 has-break-at-start-2 c = c .before .before .before .before .before .before
 
-abbrev has-break-at-kind-1 : {t : ℕ} → has-break-lts.After-struct-known2 (has-break-calls t) (has-break-at t) has-break.Post → has-break-lts.After-kind (has-break-calls t) (has-break-at t) has-break.Post
+abbrev has-break-at-kind-1 : {t : ℕ} → has-break-lts.After-struct-known2 (has-break-calls t) (has-break-at t) has-break.Post
+    → has-break-lts.After-kind (has-break-calls t) (has-break-at t) has-break.Post
 has-break-at-kind-1 c = c .before .before .before .before
 
-abbrev has-break-at-if1-1 : {t : ℕ} → has-break-lts.After-has-break-list2 (has-break-calls t) (has-break-at t) has-break.Post → has-break-lts.Else1 (has-break-calls t) (has-break-at t) has-break.Post
+abbrev has-break-at-if1-1 : {t : ℕ} → has-break-lts.After-has-break-list2 (has-break-calls t) (has-break-at t) has-break.Post
+    → has-break-lts.Else1 (has-break-calls t) (has-break-at t) has-break.Post
 has-break-at-if1-1 c = c .before .before .before .before .before .before
 
-abbrev has-break-at-struct-known2-1 : {t : ℕ} → has-break-lts.Else3 (has-break-calls t) (has-break-at t) has-break.Post → has-break-lts.After-struct-known2 (has-break-calls t) (has-break-at t) has-break.Post
+abbrev has-break-at-struct-known2-1 : {t : ℕ} → has-break-lts.Else3 (has-break-calls t) (has-break-at t) has-break.Post
+    → has-break-lts.After-struct-known2 (has-break-calls t) (has-break-at t) has-break.Post
 has-break-at-struct-known2-1 c = c .before .before .before .before
 
 known : (t : ℕ) (c : has-break-lts.After-struct-known2 (has-break-calls t) (has-break-at t) has-break.Post) → Known-at t c
@@ -252,18 +257,24 @@ abbrev has-break-list-μ-loop : has-break-list-lts.MeasureT-loop
 has-break-list-μ-loop rows pairs bytes end label implicit c₀ c = end - c
 
 has-break-list-loop-holds :
-    (t : ℕ) → has-break-list-lts.Need-loop-holds (has-break-list-calls t) (has-break-list-at t) has-break-list.Post has-break-list-Inv-loop has-break-list-μ-loop
+    (t : ℕ) → has-break-list-lts.Need-loop-holds (has-break-list-calls t) (has-break-list-at t) has-break-list.Post has-break-list-Inv-loop
+    has-break-list-μ-loop
 has-break-list-loop-holds t c = let s = c .before .before .before in begin (s .pre .1 .0) (s .pre .1 .1)
 
 -- ---- points of the code that the answers below go back to
-abbrev has-break-list-at-start-1 : {t : ℕ} → has-break-list-lts.In-loop (has-break-list-calls t) (has-break-list-at t) has-break-list.Post has-break-list-Inv-loop has-break-list-μ-loop → has-break-list-lts.Start (has-break-list-calls t) (has-break-list-at t) has-break-list.Post has-break-list-Inv-loop has-break-list-μ-loop
+abbrev has-break-list-at-start-1 : {t : ℕ}
+    → has-break-list-lts.In-loop (has-break-list-calls t) (has-break-list-at t) has-break-list.Post has-break-list-Inv-loop has-break-list-μ-loop
+    → has-break-list-lts.Start (has-break-list-calls t) (has-break-list-at t) has-break-list.Post has-break-list-Inv-loop has-break-list-μ-loop
 has-break-list-at-start-1 c = c .before .before .before .before .before
 
-abbrev has-break-list-at-start-2 : {t : ℕ} → has-break-list-lts.After-loop (has-break-list-calls t) (has-break-list-at t) has-break-list.Post has-break-list-Inv-loop has-break-list-μ-loop → has-break-list-lts.Start (has-break-list-calls t) (has-break-list-at t) has-break-list.Post has-break-list-Inv-loop has-break-list-μ-loop
+abbrev has-break-list-at-start-2 : {t : ℕ}
+    → has-break-list-lts.After-loop (has-break-list-calls t) (has-break-list-at t) has-break-list.Post has-break-list-Inv-loop has-break-list-μ-loop
+    → has-break-list-lts.Start (has-break-list-calls t) (has-break-list-at t) has-break-list.Post has-break-list-Inv-loop has-break-list-μ-loop
 has-break-list-at-start-2 c = c .before .before .before .before .before
 
 has-break-list-has-break-requires :
-    (t : ℕ) → has-break-list-lts.Need-has-break-requires (has-break-list-calls t) (has-break-list-at t) has-break-list.Post has-break-list-Inv-loop has-break-list-μ-loop
+    (t : ℕ) → has-break-list-lts.Need-has-break-requires (has-break-list-calls t) (has-break-list-at t) has-break-list.Post has-break-list-Inv-loop
+    has-break-list-μ-loop
 has-break-list-has-break-requires t c κs =
     let s = has-break-list-at-start-1 c in
     item (s .pre .1 .0) (c .before .loop .inv) (c .loop-test .taken) _ (s .pre .0)
@@ -276,7 +287,8 @@ has-break-list-returns t c =
     found (s .pre .1 .0) (p .before .loop .inv) (p .loop-test .taken) (c .before .has-break .ensures) (c .if1 .taken)
 
 has-break-list-size-requires :
-    (t : ℕ) → has-break-list-lts.Need-size-requires (has-break-list-calls t) (has-break-list-at t) has-break-list.Post has-break-list-Inv-loop has-break-list-μ-loop
+    (t : ℕ) → has-break-list-lts.Need-size-requires (has-break-list-calls t) (has-break-list-at t) has-break-list.Post has-break-list-Inv-loop
+    has-break-list-μ-loop
 has-break-list-size-requires t c κs = search needs
 
 has-break-list-add-c :
@@ -296,7 +308,8 @@ has-break-list-loop-less t c =
     omega (arith, x, c .size .ensures, p .loop-test .taken)
 
 has-break-list-loop-again :
-    (t : ℕ) → has-break-list-lts.Need-loop-again (has-break-list-calls t) (has-break-list-at t) has-break-list.Post has-break-list-Inv-loop has-break-list-μ-loop
+    (t : ℕ) → has-break-list-lts.Need-loop-again (has-break-list-calls t) (has-break-list-at t) has-break-list.Post has-break-list-Inv-loop
+    has-break-list-μ-loop
 has-break-list-loop-again t c =
     let s = has-break-list-at-start-1 (c .before .before .before) in
     let p = c .before .before .before in

@@ -163,13 +163,17 @@ Known-at t c =
     Known (a .rows .now) (a .pairs .now) (a .bytes .now) t (a .row .0) (a .label .0) (c .before .before .before .kind .result) (c .before .size .result)
 
 -- ---- points of the code that the answers below go back to
-abbrev is-terminating-at-start-1 : {t : ℕ} → is-terminating-lts.After-struct-known (is-terminating-calls t) (is-terminating-at t) is-terminating.Post → is-terminating-lts.Start (is-terminating-calls t) (is-terminating-at t) is-terminating.Post
+abbrev is-terminating-at-start-1 : {t : ℕ} → is-terminating-lts.After-struct-known (is-terminating-calls t) (is-terminating-at t) is-terminating.Post
+    → is-terminating-lts.Start (is-terminating-calls t) (is-terminating-at t) is-terminating.Post
 is-terminating-at-start-1 c = c .before .before .before .before .before
 
-abbrev is-terminating-at-if1-1 : {t : ℕ} → is-terminating-lts.After-struct-known3 (is-terminating-calls t) (is-terminating-at t) is-terminating.Post → is-terminating-lts.Else1 (is-terminating-calls t) (is-terminating-at t) is-terminating.Post
+abbrev is-terminating-at-if1-1 : {t : ℕ} → is-terminating-lts.After-struct-known3 (is-terminating-calls t) (is-terminating-at t) is-terminating.Post
+    → is-terminating-lts.Else1 (is-terminating-calls t) (is-terminating-at t) is-terminating.Post
 is-terminating-at-if1-1 c = c .before .before .before .before
 
-abbrev is-terminating-at-is-terminating2-1 : {t : ℕ} → is-terminating-lts.After-is-terminating3 (is-terminating-calls t) (is-terminating-at t) is-terminating.Post → is-terminating-lts.After-is-terminating2 (is-terminating-calls t) (is-terminating-at t) is-terminating.Post
+abbrev is-terminating-at-is-terminating2-1 : {t : ℕ}
+    → is-terminating-lts.After-is-terminating3 (is-terminating-calls t) (is-terminating-at t) is-terminating.Post
+    → is-terminating-lts.After-is-terminating2 (is-terminating-calls t) (is-terminating-at t) is-terminating.Post
 is-terminating-at-is-terminating2-1 c = c .before .before .before .before
 
 known : (t : ℕ) (c : is-terminating-lts.After-struct-known2 (is-terminating-calls t) (is-terminating-at t) is-terminating.Post) → Known-at t c
@@ -193,16 +197,32 @@ Opened-at t c =
     Opened (a .rows .now) (a .pairs .now) (a .bytes .now) t (a .row .0) (a .label .0) (c .before .before .size .result) (a .found)
 
 -- ---- points of the code that the answers below go back to
-abbrev is-terminating-switch-at-start-1 : {t : ℕ} → is-terminating-switch-lts.After-struct-known (is-terminating-switch-calls t) (is-terminating-switch-at t) is-terminating-switch.Post is-terminating-switch-Inv-loop is-terminating-switch-μ-loop → is-terminating-switch-lts.Start (is-terminating-switch-calls t) (is-terminating-switch-at t) is-terminating-switch.Post is-terminating-switch-Inv-loop is-terminating-switch-μ-loop
+abbrev is-terminating-switch-at-start-1 : {t : ℕ}
+    → is-terminating-switch-lts.After-struct-known (is-terminating-switch-calls t) (is-terminating-switch-at t) is-terminating-switch.Post
+    is-terminating-switch-Inv-loop is-terminating-switch-μ-loop
+    → is-terminating-switch-lts.Start (is-terminating-switch-calls t) (is-terminating-switch-at t) is-terminating-switch.Post is-terminating-switch-Inv-loop
+    is-terminating-switch-μ-loop
 is-terminating-switch-at-start-1 c = c .before .before .before .before .before
 
-abbrev is-terminating-switch-at-size2-1 : {t : ℕ} → is-terminating-switch-lts.Else2 (is-terminating-switch-calls t) (is-terminating-switch-at t) is-terminating-switch.Post is-terminating-switch-Inv-loop is-terminating-switch-μ-loop → is-terminating-switch-lts.After-size2 (is-terminating-switch-calls t) (is-terminating-switch-at t) is-terminating-switch.Post is-terminating-switch-Inv-loop is-terminating-switch-μ-loop
+abbrev is-terminating-switch-at-size2-1 : {t : ℕ}
+    → is-terminating-switch-lts.Else2 (is-terminating-switch-calls t) (is-terminating-switch-at t) is-terminating-switch.Post is-terminating-switch-Inv-loop
+    is-terminating-switch-μ-loop
+    → is-terminating-switch-lts.After-size2 (is-terminating-switch-calls t) (is-terminating-switch-at t) is-terminating-switch.Post
+    is-terminating-switch-Inv-loop is-terminating-switch-μ-loop
 is-terminating-switch-at-size2-1 c = c .before .before .before .before
 
-abbrev is-terminating-switch-at-size2-2 : {t : ℕ} → is-terminating-switch-lts.Then2 (is-terminating-switch-calls t) (is-terminating-switch-at t) is-terminating-switch.Post is-terminating-switch-Inv-loop is-terminating-switch-μ-loop → is-terminating-switch-lts.After-size2 (is-terminating-switch-calls t) (is-terminating-switch-at t) is-terminating-switch.Post is-terminating-switch-Inv-loop is-terminating-switch-μ-loop
+abbrev is-terminating-switch-at-size2-2 : {t : ℕ}
+    → is-terminating-switch-lts.Then2 (is-terminating-switch-calls t) (is-terminating-switch-at t) is-terminating-switch.Post is-terminating-switch-Inv-loop
+    is-terminating-switch-μ-loop
+    → is-terminating-switch-lts.After-size2 (is-terminating-switch-calls t) (is-terminating-switch-at t) is-terminating-switch.Post
+    is-terminating-switch-Inv-loop is-terminating-switch-μ-loop
 is-terminating-switch-at-size2-2 c = c .before .before .before .before
 
-abbrev is-terminating-switch-at-if1-1 : {t : ℕ} → is-terminating-switch-lts.Else3 (is-terminating-switch-calls t) (is-terminating-switch-at t) is-terminating-switch.Post is-terminating-switch-Inv-loop is-terminating-switch-μ-loop → is-terminating-switch-lts.Joined1 (is-terminating-switch-calls t) (is-terminating-switch-at t) is-terminating-switch.Post is-terminating-switch-Inv-loop is-terminating-switch-μ-loop
+abbrev is-terminating-switch-at-if1-1 : {t : ℕ}
+    → is-terminating-switch-lts.Else3 (is-terminating-switch-calls t) (is-terminating-switch-at t) is-terminating-switch.Post is-terminating-switch-Inv-loop
+    is-terminating-switch-μ-loop
+    → is-terminating-switch-lts.Joined1 (is-terminating-switch-calls t) (is-terminating-switch-at t) is-terminating-switch.Post is-terminating-switch-Inv-loop
+    is-terminating-switch-μ-loop
 is-terminating-switch-at-if1-1 c = c .before .before .before .before
 
 opened : (t : ℕ) (c : is-terminating-switch-lts.After-struct-known2 (is-terminating-switch-calls t)
@@ -372,13 +392,19 @@ is-terminating-list-enum-known-last :
 is-terminating-list-enum-known-last t c = search needs
 
 -- ---- points of the code that the answers below go back to
-abbrev is-terminating-list-at-start-1 : {t : ℕ} → is-terminating-list-lts.After-enum-told (is-terminating-list-calls t) (is-terminating-list-at t) is-terminating-list.Post → is-terminating-list-lts.Start (is-terminating-list-calls t) (is-terminating-list-at t) is-terminating-list.Post
+abbrev is-terminating-list-at-start-1 : {t : ℕ}
+    → is-terminating-list-lts.After-enum-told (is-terminating-list-calls t) (is-terminating-list-at t) is-terminating-list.Post
+    → is-terminating-list-lts.Start (is-terminating-list-calls t) (is-terminating-list-at t) is-terminating-list.Post
 is-terminating-list-at-start-1 c = c .before .before .before .before .before .before
 
-abbrev is-terminating-list-at-start-2 : {t : ℕ} → is-terminating-list-lts.After-known-told (is-terminating-list-calls t) (is-terminating-list-at t) is-terminating-list.Post → is-terminating-list-lts.Start (is-terminating-list-calls t) (is-terminating-list-at t) is-terminating-list.Post
+abbrev is-terminating-list-at-start-2 : {t : ℕ}
+    → is-terminating-list-lts.After-known-told (is-terminating-list-calls t) (is-terminating-list-at t) is-terminating-list.Post
+    → is-terminating-list-lts.Start (is-terminating-list-calls t) (is-terminating-list-at t) is-terminating-list.Post
 is-terminating-list-at-start-2 c = c .before .before .before .before .before .before .before
 
-abbrev is-terminating-list-at-last-item-1 : {t : ℕ} → is-terminating-list-lts.After-is-terminating (is-terminating-list-calls t) (is-terminating-list-at t) is-terminating-list.Post → is-terminating-list-lts.After-last-item (is-terminating-list-calls t) (is-terminating-list-at t) is-terminating-list.Post
+abbrev is-terminating-list-at-last-item-1 : {t : ℕ}
+    → is-terminating-list-lts.After-is-terminating (is-terminating-list-calls t) (is-terminating-list-at t) is-terminating-list.Post
+    → is-terminating-list-lts.After-last-item (is-terminating-list-calls t) (is-terminating-list-at t) is-terminating-list.Post
 is-terminating-list-at-last-item-1 c = c .before .before .before .before
 
 is-terminating-list-is-terminating-requires :

@@ -143,8 +143,13 @@ loop2-again c =
     let s = l .before .before .before .before .before .before in
     let n = l .loop2 .c in
     let more : n + 1 < s .args .end = omega arith in
-    let h : n + 1 < rowCount (s .args .rows .now) = omega (arith, at-item l .within) in
-    (omega arith, omega arith, omega (arith, s .pre .0 .some-rows (n + 1) h), omega (arith, s .pre .0 .within (n + 1) h), λ b v. step (s .pre .1) (rw (i .before .loop2-test .taken) at (l .loop2 .inv .4 b v)) more (s .pre .2) (c .size2 .ensures) (c .before .unless-empty2 .ensures))
+    let h : n + 1 < rowCount (s .args .rows .now) = omega (arith, at-item l .within) in (
+      omega arith,
+      omega arith,
+      omega (arith, s .pre .0 .some-rows (n + 1) h),
+      omega (arith, s .pre .0 .within (n + 1) h),
+      λ b v. step (s .pre .1) (rw (i .before .loop2-test .taken) at (l .loop2 .inv .4 b v)) more (s .pre .2) (c .size2 .ensures) (c .before .unless-empty2 .ensures),
+    )
 
 add-c-2 : tie.Need-add-c-2 Inv-loop2 μ-loop2 Inv-loop μ-loop
 add-c-2 c = omega arith

@@ -47,10 +47,12 @@ kind-requires : tie.Need-kind-requires
 kind-requires c κs = search needs
 
 returns-2 : tie.Need-returns-2
-returns-2 c = let p = c .before .before .before in after-switch (p .before .before .before) (p .if1 .left) _ (c .before .kind .ensures) 15 (c .match .keys1) refl
+returns-2 c =
+    let p = c .before .before .before in after-switch (p .before .before .before) (p .if1 .left) _ (c .before .kind .ensures) 15 (c .match .keys1) refl
 
 returns-3 : tie.Need-returns-3
-returns-3 c = let p = c .before .before .before in after-switch (p .before .before .before) (p .if1 .left) _ (c .before .kind .ensures) 16 (c .match .keys2) refl
+returns-3 c =
+    let p = c .before .before .before in after-switch (p .before .before .before) (p .if1 .left) _ (c .before .kind .ensures) 16 (c .match .keys2) refl
 
 returns-4 : tie.Need-returns-4
 returns-4 c = let p = c .before .before .before in after-select (p .before .before .before) (p .if1 .left) _ (c .before .kind .ensures) (c .match .keys3)

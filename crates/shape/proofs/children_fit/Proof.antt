@@ -58,7 +58,8 @@ returns c =
     let s = z .before .before in
     let l = p .before .loop in
     barred (s .args .rows .now) (held (s .args .holding)) (s .args .row .0) (z .size .ensures) (l .inv) (p .loop-test .taken)
-    (may (s .args .rows .now) (held (s .args .holding)) (l .i) (l .c) (s .pre .2 (l .c) (omega arith)) (c .before .before .kind .ensures) (c .before .may-hold .ensures) ∙ not-true _ (c .if1 .taken))
+    (may (s .args .rows .now) (held (s .args .holding)) (l .i) (l .c) (s .pre .2 (l .c) (omega arith)) (c .before .before .kind .ensures)
+    (c .before .may-hold .ensures) ∙ not-true _ (c .if1 .taken))
 
 size-requires-2 : tie.Need-size-requires-2 Inv-loop μ-loop
 size-requires-2 c κs = search needs
@@ -96,7 +97,8 @@ loop-again c =
     let m = c .before .before in
     let l = p .before .loop in
     next (s .args .rows .now) (held (s .args .holding)) (s .args .row .0) (z .size .ensures) (l .inv) (p .loop-test .taken)
-    (may (s .args .rows .now) (held (s .args .holding)) (l .i) (l .c) (s .pre .2 (l .c) (omega arith)) (m .before .before .kind .ensures) (m .before .may-hold .ensures) ∙ not-false _ (m .if1 .left))
+    (may (s .args .rows .now) (held (s .args .holding)) (l .i) (l .c) (s .pre .2 (l .c) (omega arith)) (m .before .before .kind .ensures)
+    (m .before .may-hold .ensures) ∙ not-false _ (m .if1 .left))
     (s .pre .1 .some-rows (l .c) (omega arith)) (c .before .size2 .ensures) (c .if2 .left)
 
 at-least-requires : tie.Need-at-least-requires Inv-loop μ-loop

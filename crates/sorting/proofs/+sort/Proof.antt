@@ -89,7 +89,8 @@ sort-part-sort-start-2 t c = search needs
 sort-part-sort-end-2 : (t : ℕ) → sort-lts.Need-part-sort-end-2 (sort-calls t) (sort-at t) sort.Post
 sort-part-sort-end-2 t c = search needs
 
--- The function's start, seen from where the second half is lent; what the first call leaves, seen from there; and what both leave, seen from where they are joined.
+-- The function's start, seen from where the second half is lent; what the first call leaves, seen from there; and what both leave, seen from where
+-- they are joined.
 abbrev start : (t : ℕ) → sort-lts.After-sort-arg4 (sort-calls t) (sort-at t) sort.Post → sort-lts.Start (sort-calls t) (sort-at t) sort.Post
 start t c = c .before .before .before .before .before .before .before .before .before .before .before .before .before .before
 

@@ -48,7 +48,11 @@ loop-again c =
     let i = l .inv in
     let h = c .before .before .loop-test .taken in
     ⊎-elim
-    (λ a. (i .0, rw (a .1) (length-set (l .canonical) (l .n) _ ∙ i .1), rw (a .1) (filling-blank _ _ _ _ (i .2) h (sym (c .before .is-blank .ensures) ∙ a .0 .taken))))
+    (λ a. (
+      i .0,
+      rw (a .1) (length-set (l .canonical) (l .n) _ ∙ i .1),
+      rw (a .1) (filling-blank _ _ _ _ (i .2) h (sym (c .before .is-blank .ensures) ∙ a .0 .taken)),
+    ))
     (λ a. (i .0, rw (a .1) (i .1), rw (a .1) (filling-kept _ _ _ _ (i .2) h (sym (c .before .is-blank .ensures) ∙ a .0 .left))))
     (c .if1 .came)
 

@@ -8,7 +8,8 @@ use native.Mathlib.Omega.{arith}
 use lib.ListN.{length, length-set}
 use borrow.Author.Needs.{needs}
 use Rattle.rules.specs.Rows.{rowCount}
-use Rattle.tables.proofs.Declaring.{Declaring, Placed, canon-room, placed, declaring-start, declaring-other, declaring-blank, declaring-again, declaring-first, declaring-end}
+use Rattle.tables.proofs.Declaring.{Declaring, Placed, canon-room, placed, declaring-start, declaring-other, declaring-blank, declaring-again}
+use Rattle.tables.proofs.Declaring.{declaring-first, declaring-end}
 use Rattle.tables.proofs.declared_table.Statement.{statement}
 use Rattle.tables.proofs.declared_table.Tie as tie
 

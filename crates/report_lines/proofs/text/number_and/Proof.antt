@@ -14,7 +14,13 @@ slice-aggregate-bytes : tie.Need-slice-aggregate-bytes
 slice-aggregate-bytes c = search needs
 
 bytes-requires : tie.Need-bytes-requires
-bytes-requires c κs = omega (arith, c .before .before .before .before .number .ensures .ends, c .before .before .before .before .number .ensures .same-length, decimal-twenty (c .before .before .before .before .before .before .before .args .n))
+bytes-requires c κs =
+    omega (
+      arith,
+      c .before .before .before .before .number .ensures .ends,
+      c .before .before .before .before .number .ensures .same-length,
+      decimal-twenty (c .before .before .before .before .before .before .before .args .n),
+    )
 
 same-length : tie.Need-same-length
 same-length c = search needs

@@ -56,7 +56,8 @@ returns-6 c y =
     (omega (arith, at-kind-1 c .before .before .size .ensures, at-kind-1 c .before .if1 .left))
     (λ e. at-detail-allowed-1 c .before .before .before .if2 .left (k ∙ e))
     (omega (arith, k, at-detail-allowed-1 c .before .before .if3 .left))
-    (rw (← k, ← at-detail-allowed-1 c .before .detail .ensures) (sym (at-detail-allowed-1 c .detail-allowed .ensures) ∙ not-false _ (c .before .before .before .if4 .left)))
+    (rw (← k, ← at-detail-allowed-1 c .before .detail .ensures)
+    (sym (at-detail-allowed-1 c .detail-allowed .ensures) ∙ not-false _ (c .before .before .before .if4 .left)))
     (λ e. c .before .if5 .left (c .before .before .position .ensures ∙ e))
     (sym (c .name-word .ensures) ∙ eqb-true (c .name-word .result) 0 y)
 

@@ -34,7 +34,8 @@ may-hold-requires c κs = search needs
 returns-3 : tie.Need-returns-3
 returns-3 c y =
     let o = c .before .before .before in
-    one-child _ _ (o .before .before .before .size .ensures) _ (o .size2 .ensures) (omega arith) (omega arith) (c .before .kind .ensures) (c .may-hold .ensures) y
+    one-child _ _ (o .before .before .before .size .ensures) _ (o .size2 .ensures) (omega arith) (omega arith) (c .before .kind .ensures)
+    (c .may-hold .ensures) y
 
 pub child-fits-spec : {M : Type 1} → statement M
 child-fits-spec =
