@@ -64,7 +64,8 @@ fn first_same(
     slot: usize,
 ) -> usize
     requires { ⌜ Room (now pairs) (now heads) (now «next_in_slot») (now keys) (now firsts) × (n < pairCount (now pairs)) ⌝ }
-    requires { ⌜ Heads (now pairs) (now bytes) n (now heads) × Linked (now pairs) (now bytes) (length (now heads)) n (now «next_in_slot») (now keys) (now firsts) ⌝ }
+    requires { ⌜ Heads (now pairs) (now bytes) n (now heads)
+        × Linked (now pairs) (now bytes) (length (now heads)) n (now «next_in_slot») (now keys) (now firsts) ⌝ }
     requires { ⌜ (key ≡ hashAt (now pairs) (now bytes) n) × (slot ≡ slotOf (length (now heads)) key) × (slot < length (now heads)) ⌝ }
     ensures { λ r. ⌜ r ≡ first (now (pairs .entry)) (now (bytes .entry)) (suc n) ⌝ }
 {

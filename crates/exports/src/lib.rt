@@ -56,10 +56,14 @@ pub extern "C" fn zesthull_labels(
     bindings: &mut [u32],
     value: &mut usize,
 ) -> u32
-    ensures number { λ r. ⌜ r ≡ toldCount (labelCall (now (rows .entry)) (now (pairs .entry)) (now (bytes .entry)) (now (sheet .entry)) (now (bindings .entry)) .answer) .0 ⌝ }
-    ensures value { λ _. ⌜ now (value .exit) ≡ toldCount (labelCall (now (rows .entry)) (now (pairs .entry)) (now (bytes .entry)) (now (sheet .entry)) (now (bindings .entry)) .answer) .1 ⌝ }
-    ensures sheet { λ _. ⌜ now (sheet .exit) ≡ labelCall (now (rows .entry)) (now (pairs .entry)) (now (bytes .entry)) (now (sheet .entry)) (now (bindings .entry)) .sheet-words ⌝ }
-    ensures bindings { λ _. ⌜ now (bindings .exit) ≡ labelCall (now (rows .entry)) (now (pairs .entry)) (now (bytes .entry)) (now (sheet .entry)) (now (bindings .entry)) .binding-words ⌝ }
+    ensures number { λ r. ⌜ r ≡ toldCount
+        (labelCall (now (rows .entry)) (now (pairs .entry)) (now (bytes .entry)) (now (sheet .entry)) (now (bindings .entry)) .answer) .0 ⌝ }
+    ensures value { λ _. ⌜ now (value .exit) ≡ toldCount
+        (labelCall (now (rows .entry)) (now (pairs .entry)) (now (bytes .entry)) (now (sheet .entry)) (now (bindings .entry)) .answer) .1 ⌝ }
+    ensures sheet { λ _. ⌜ now (sheet .exit) ≡ labelCall (now (rows .entry)) (now (pairs .entry)) (now (bytes .entry)) (now (sheet .entry))
+        (now (bindings .entry)) .sheet-words ⌝ }
+    ensures bindings { λ _. ⌜ now (bindings .exit) ≡ labelCall (now (rows .entry)) (now (pairs .entry)) (now (bytes .entry)) (now (sheet .entry))
+        (now (bindings .entry)) .binding-words ⌝ }
 {
     match label::labels(rows, pairs, bytes, sheet, bindings) {
         LabelAnswer::Refused(r) => {
@@ -156,12 +160,18 @@ pub extern "C" fn zesthull_marks(
     placing: &mut usize,
     verdict: &mut usize,
 ) -> u32
-    ensures number { λ r. ⌜ r ≡ toldMarks (now (placing .entry)) (now (verdict .entry)) (marksCall (now (rows .entry)) (now (pairs .entry)) (now (bytes .entry)) (now (sheet .entry)) (now (bindings .entry))) .0 ⌝ }
-    ensures value { λ _. ⌜ now (value .exit) ≡ toldMarks (now (placing .entry)) (now (verdict .entry)) (marksCall (now (rows .entry)) (now (pairs .entry)) (now (bytes .entry)) (now (sheet .entry)) (now (bindings .entry))) .1 ⌝ }
-    ensures placing { λ _. ⌜ now (placing .exit) ≡ toldMarks (now (placing .entry)) (now (verdict .entry)) (marksCall (now (rows .entry)) (now (pairs .entry)) (now (bytes .entry)) (now (sheet .entry)) (now (bindings .entry))) .2 ⌝ }
-    ensures verdict { λ _. ⌜ now (verdict .exit) ≡ toldMarks (now (placing .entry)) (now (verdict .entry)) (marksCall (now (rows .entry)) (now (pairs .entry)) (now (bytes .entry)) (now (sheet .entry)) (now (bindings .entry))) .3 ⌝ }
-    ensures sheet { λ _. ⌜ now (sheet .exit) ≡ labelCall (now (rows .entry)) (now (pairs .entry)) (now (bytes .entry)) (now (sheet .entry)) (now (bindings .entry)) .sheet-words ⌝ }
-    ensures bindings { λ _. ⌜ now (bindings .exit) ≡ labelCall (now (rows .entry)) (now (pairs .entry)) (now (bytes .entry)) (now (sheet .entry)) (now (bindings .entry)) .binding-words ⌝ }
+    ensures number { λ r. ⌜ r ≡ toldMarks (now (placing .entry)) (now (verdict .entry))
+        (marksCall (now (rows .entry)) (now (pairs .entry)) (now (bytes .entry)) (now (sheet .entry)) (now (bindings .entry))) .0 ⌝ }
+    ensures value { λ _. ⌜ now (value .exit) ≡ toldMarks (now (placing .entry)) (now (verdict .entry))
+        (marksCall (now (rows .entry)) (now (pairs .entry)) (now (bytes .entry)) (now (sheet .entry)) (now (bindings .entry))) .1 ⌝ }
+    ensures placing { λ _. ⌜ now (placing .exit) ≡ toldMarks (now (placing .entry)) (now (verdict .entry))
+        (marksCall (now (rows .entry)) (now (pairs .entry)) (now (bytes .entry)) (now (sheet .entry)) (now (bindings .entry))) .2 ⌝ }
+    ensures verdict { λ _. ⌜ now (verdict .exit) ≡ toldMarks (now (placing .entry)) (now (verdict .entry))
+        (marksCall (now (rows .entry)) (now (pairs .entry)) (now (bytes .entry)) (now (sheet .entry)) (now (bindings .entry))) .3 ⌝ }
+    ensures sheet { λ _. ⌜ now (sheet .exit) ≡ labelCall (now (rows .entry)) (now (pairs .entry)) (now (bytes .entry)) (now (sheet .entry))
+        (now (bindings .entry)) .sheet-words ⌝ }
+    ensures bindings { λ _. ⌜ now (bindings .exit) ≡ labelCall (now (rows .entry)) (now (pairs .entry)) (now (bytes .entry)) (now (sheet .entry))
+        (now (bindings .entry)) .binding-words ⌝ }
 {
     match marking::mark(rows, pairs, bytes, sheet, bindings) {
         Marking::Refused(r) => {

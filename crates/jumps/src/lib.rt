@@ -149,7 +149,8 @@ fn break_branches(
     requires { ⌜ Tables (now rows) (now pairs) (now bytes) (now canonical) (now «label_rows») (now lists) (suc (row .0)) ⌝ }
     requires { ⌜ Walking (now rows) (now pairs) (now bytes) (row .0) faults (now sheet) (now bindings) (now heads) (now «goto_or_label») ⌝ }
     requires { ⌜ (row .0 < rowCount (now rows)) × (oneOf (break ∷ continue ∷ []) (class (now rows) (row .0)) ≡ true) × (0 < name (now rows) (row .0)) ⌝ }
-    ensures { λ r. ⌜ Walked (now (rows .entry)) (now (pairs .entry)) (now (bytes .entry)) (suc (row .0)) r (now (sheet .entry)) (now (bindings .entry)) (now (sheet .exit)) (now (bindings .exit)) (now (heads .entry)) (now («goto_or_label» .entry)) ⌝ }
+    ensures { λ r. ⌜ Walked (now (rows .entry)) (now (pairs .entry)) (now (bytes .entry)) (suc (row .0)) r (now (sheet .entry)) (now (bindings .entry))
+        (now (sheet .exit)) (now (bindings .exit)) (now (heads .entry)) (now («goto_or_label» .entry)) ⌝ }
 {
     if valid_target(
         rows,
@@ -189,7 +190,8 @@ fn goto_branches(
     requires { ⌜ Tables (now rows) (now pairs) (now bytes) (now canonical) (now «label_rows») (now lists) (suc (row .0)) ⌝ }
     requires { ⌜ Walking (now rows) (now pairs) (now bytes) (row .0) faults (now sheet) (now bindings) (now heads) (now «goto_or_label») ⌝ }
     requires { ⌜ (row .0 < rowCount (now rows)) × (class (now rows) (row .0) ≡ goto) ⌝ }
-    ensures { λ _. ⌜ Walked (now (rows .entry)) (now (pairs .entry)) (now (bytes .entry)) (suc (row .0)) faults (now (sheet .entry)) (now (bindings .entry)) (now (sheet .entry)) (now (bindings .exit)) (now (heads .exit)) (now («goto_or_label» .exit)) ⌝ }
+    ensures { λ _. ⌜ Walked (now (rows .entry)) (now (pairs .entry)) (now (bytes .entry)) (suc (row .0)) faults (now (sheet .entry)) (now (bindings .entry))
+        (now (sheet .entry)) (now (bindings .exit)) (now (heads .exit)) (now («goto_or_label» .exit)) ⌝ }
 {
     let r = row.0;
     let label = goto_target(rows, pairs, bytes, canonical, label_rows, lists, row);
@@ -222,7 +224,8 @@ pub fn jump_branches(
     requires { ⌜ Tables (now rows) (now pairs) (now bytes) (now canonical) (now «label_rows») (now lists) (suc (row .0)) ⌝ }
     requires { ⌜ Walking (now rows) (now pairs) (now bytes) (row .0) faults (now sheet) (now bindings) (now heads) (now «goto_or_label») ⌝ }
     requires { ⌜ (row .0 < rowCount (now rows)) × (isBranch (class (now rows) (row .0)) ≡ true) ⌝ }
-    ensures { λ r. ⌜ Walked (now (rows .entry)) (now (pairs .entry)) (now (bytes .entry)) (suc (row .0)) r (now (sheet .entry)) (now (bindings .entry)) (now (sheet .exit)) (now (bindings .exit)) (now (heads .exit)) (now («goto_or_label» .exit)) ⌝ }
+    ensures { λ r. ⌜ Walked (now (rows .entry)) (now (pairs .entry)) (now (bytes .entry)) (suc (row .0)) r (now (sheet .entry)) (now (bindings .entry))
+        (now (sheet .exit)) (now (bindings .exit)) (now (heads .exit)) (now («goto_or_label» .exit)) ⌝ }
 {
     let name = rows::name(rows, row);
     if name.0 == 0 {

@@ -69,8 +69,10 @@ fn walk_body(
     used: &mut [u8],
 ) -> usize
     requires { ⌜ Body (now rows) (now pairs) (now bytes) ⌝ }
-    requires { ⌜ Lent (now rows) (now pairs) (now canonical) (now «label_rows») (now lists) (now sheet) (now bindings) (now heads) (now «goto_or_label») (now «latest_decls») (now «latest_labels») (now used) ⌝ }
-    ensures { λ r. ⌜ Answered (now (rows .entry)) (now (pairs .entry)) (now (bytes .entry)) r (now (sheet .entry)) (now (bindings .entry)) (now (sheet .exit)) (now (bindings .exit)) ⌝ }
+    requires { ⌜ Lent (now rows) (now pairs) (now canonical) (now «label_rows») (now lists) (now sheet)
+        (now bindings) (now heads) (now «goto_or_label») (now «latest_decls») (now «latest_labels») (now used) ⌝ }
+    ensures { λ r. ⌜ Answered (now (rows .entry)) (now (pairs .entry)) (now (bytes .entry)) r (now (sheet .entry)) (now (bindings .entry)) (now (sheet .exit))
+        (now (bindings .exit)) ⌝ }
 {
     tables::canon_table(pairs, bytes, canonical);
     tables::declared_table(rows, pairs, bytes, canonical, label_rows);
@@ -122,7 +124,8 @@ fn walk_large(
 ) -> usize
     requires { ⌜ Body (now rows) (now pairs) (now bytes) ⌝ }
     requires { ⌜ Blank (now rows) (now sheet) (now bindings) ⌝ }
-    ensures { λ r. ⌜ Answered (now (rows .entry)) (now (pairs .entry)) (now (bytes .entry)) r (now (sheet .entry)) (now (bindings .entry)) (now (sheet .exit)) (now (bindings .exit)) ⌝ }
+    ensures { λ r. ⌜ Answered (now (rows .entry)) (now (pairs .entry)) (now (bytes .entry)) r (now (sheet .entry)) (now (bindings .entry)) (now (sheet .exit))
+        (now (bindings .exit)) ⌝ }
 {
     let mut canonical = [0u32; 501];
     let mut label_rows = [0u16; 501];
@@ -159,7 +162,8 @@ fn walk_small(
 ) -> usize
     requires { ⌜ Body (now rows) (now pairs) (now bytes) × (pairCount (now pairs) < 32) × (rowCount (now rows) ≤ 128) ⌝ }
     requires { ⌜ Blank (now rows) (now sheet) (now bindings) ⌝ }
-    ensures { λ r. ⌜ Answered (now (rows .entry)) (now (pairs .entry)) (now (bytes .entry)) r (now (sheet .entry)) (now (bindings .entry)) (now (sheet .exit)) (now (bindings .exit)) ⌝ }
+    ensures { λ r. ⌜ Answered (now (rows .entry)) (now (pairs .entry)) (now (bytes .entry)) r (now (sheet .entry)) (now (bindings .entry)) (now (sheet .exit))
+        (now (bindings .exit)) ⌝ }
 {
     let mut canonical = [0u32; 32];
     let mut label_rows = [0u16; 32];
@@ -196,7 +200,8 @@ fn faults(
 ) -> usize
     requires { ⌜ Body (now rows) (now pairs) (now bytes) ⌝ }
     requires { ⌜ (rowCount (now rows) * 8 ≤ length (now sheet)) × (rowCount (now rows) ≤ length (now bindings)) ⌝ }
-    ensures { λ r. ⌜ Answered (now (rows .entry)) (now (pairs .entry)) (now (bytes .entry)) r (now (sheet .entry)) (now (bindings .entry)) (now (sheet .exit)) (now (bindings .exit)) ⌝ }
+    ensures { λ r. ⌜ Answered (now (rows .entry)) (now (pairs .entry)) (now (bytes .entry)) r (now (sheet .entry)) (now (bindings .entry)) (now (sheet .exit))
+        (now (bindings .exit)) ⌝ }
 {
     clear(bindings, rows.len() / 5);
     if pairs.len() < 2 {
@@ -224,9 +229,12 @@ pub fn labels_of(
     bindings: &mut [u32],
 ) -> LabelAnswer
     requires { ⌜ WellFormed (now rows) (now pairs) (now bytes) ⌝ }
-    ensures answer { λ r. ⌜ given r ≡ labelCall (now (rows .entry)) (now (pairs .entry)) (now (bytes .entry)) (now (sheet .entry)) (now (bindings .entry)) .answer ⌝ }
-    ensures sheet { λ r. ⌜ now (sheet .exit) ≡ labelCall (now (rows .entry)) (now (pairs .entry)) (now (bytes .entry)) (now (sheet .entry)) (now (bindings .entry)) .sheet-words ⌝ }
-    ensures bindings { λ r. ⌜ now (bindings .exit) ≡ labelCall (now (rows .entry)) (now (pairs .entry)) (now (bytes .entry)) (now (sheet .entry)) (now (bindings .entry)) .binding-words ⌝ }
+    ensures answer { λ r. ⌜ given r ≡ labelCall (now (rows .entry)) (now (pairs .entry)) (now (bytes .entry)) (now (sheet .entry)) (now (bindings .entry))
+        .answer ⌝ }
+    ensures sheet { λ r. ⌜ now (sheet .exit) ≡ labelCall (now (rows .entry)) (now (pairs .entry)) (now (bytes .entry)) (now (sheet .entry))
+        (now (bindings .entry)) .sheet-words ⌝ }
+    ensures bindings { λ r. ⌜ now (bindings .exit) ≡ labelCall (now (rows .entry)) (now (pairs .entry)) (now (bytes .entry)) (now (sheet .entry))
+        (now (bindings .entry)) .binding-words ⌝ }
 {
     let count = rows.len() / 5;
     if sheet.len() < count * 8 {
@@ -247,9 +255,12 @@ pub fn labels(
     sheet: &mut [u32],
     bindings: &mut [u32],
 ) -> LabelAnswer
-    ensures answer { λ r. ⌜ given r ≡ labelCall (now (rows .entry)) (now (pairs .entry)) (now (bytes .entry)) (now (sheet .entry)) (now (bindings .entry)) .answer ⌝ }
-    ensures sheet { λ _. ⌜ now (sheet .exit) ≡ labelCall (now (rows .entry)) (now (pairs .entry)) (now (bytes .entry)) (now (sheet .entry)) (now (bindings .entry)) .sheet-words ⌝ }
-    ensures bindings { λ _. ⌜ now (bindings .exit) ≡ labelCall (now (rows .entry)) (now (pairs .entry)) (now (bytes .entry)) (now (sheet .entry)) (now (bindings .entry)) .binding-words ⌝ }
+    ensures answer { λ r. ⌜ given r ≡ labelCall (now (rows .entry)) (now (pairs .entry)) (now (bytes .entry)) (now (sheet .entry)) (now (bindings .entry))
+        .answer ⌝ }
+    ensures sheet { λ _. ⌜ now (sheet .exit) ≡ labelCall (now (rows .entry)) (now (pairs .entry)) (now (bytes .entry)) (now (sheet .entry))
+        (now (bindings .entry)) .sheet-words ⌝ }
+    ensures bindings { λ _. ⌜ now (bindings .exit) ≡ labelCall (now (rows .entry)) (now (pairs .entry)) (now (bytes .entry)) (now (sheet .entry))
+        (now (bindings .entry)) .binding-words ⌝ }
 {
     match body::refusal_of(rows, pairs, bytes) {
         Checked::Refused(r) => LabelAnswer::Refused(r),

@@ -35,10 +35,13 @@ fn unresolved_at(
     row: RowNumber,
     faults: usize,
 ) -> usize
-    requires { ⌜ Body (now rows) (now pairs) (now bytes) × CanonTable (now pairs) (now bytes) (now canonical) × DeclaredTable (now rows) (now pairs) (now bytes) (now «label_rows») ⌝ }
-    requires { ⌜ (row .0 < rowCount (now rows)) × (kind (now rows) (row .0) ≡ 11) × (bound ≡ bindingAt (now rows) (now pairs) (now bytes) (rowCount (now rows)) (row .0)) ⌝ }
+    requires { ⌜ Body (now rows) (now pairs) (now bytes) × CanonTable (now pairs) (now bytes) (now canonical)
+        × DeclaredTable (now rows) (now pairs) (now bytes) (now «label_rows») ⌝ }
+    requires { ⌜ (row .0 < rowCount (now rows)) × (kind (now rows) (row .0) ≡ 11)
+        × (bound ≡ bindingAt (now rows) (now pairs) (now bytes) (rowCount (now rows)) (row .0)) ⌝ }
     requires { ⌜ Left (now rows) (now pairs) (now bytes) (row .0) faults (now sheet) (now used) ⌝ }
-    ensures { λ r. ⌜ LeftOver (now (rows .entry)) (now (pairs .entry)) (now (bytes .entry)) (suc (row .0)) r (now (sheet .entry)) (now (sheet .exit)) (now (used .exit)) ⌝ }
+    ensures { λ r. ⌜ LeftOver (now (rows .entry)) (now (pairs .entry)) (now (bytes .entry)) (suc (row .0)) r (now (sheet .entry)) (now (sheet .exit))
+        (now (used .exit)) ⌝ }
 {
     let c = tables::canon_of(rows, canonical, row);
     if bound != 0 {
@@ -73,8 +76,10 @@ pub fn unresolved(
     used: &mut [u8],
     faults: usize,
 ) -> usize
-    requires { ⌜ Body (now rows) (now pairs) (now bytes) × CanonTable (now pairs) (now bytes) (now canonical) × DeclaredTable (now rows) (now pairs) (now bytes) (now «label_rows») ⌝ }
-    requires { ⌜ AtEnd (now rows) (now pairs) (now bytes) faults (now sheet) (now bindings) × (pairCount (now pairs) < length (now used)) × ((c : ℕ) → getD (now used) c 0 ≡ 0) ⌝ }
+    requires { ⌜ Body (now rows) (now pairs) (now bytes) × CanonTable (now pairs) (now bytes) (now canonical)
+        × DeclaredTable (now rows) (now pairs) (now bytes) (now «label_rows») ⌝ }
+    requires { ⌜ AtEnd (now rows) (now pairs) (now bytes) faults (now sheet) (now bindings) × (pairCount (now pairs) < length (now used))
+        × ((c : ℕ) → getD (now used) c 0 ≡ 0) ⌝ }
     ensures sheet { λ r. ⌜ Reported r (faultsLeft (now (rows .entry)) (now (pairs .entry)) (now (bytes .entry))) (now (sheet .entry)) (now (sheet .exit)) ⌝ }
     ensures used { λ _. ⌜ UsedTable (now (rows .entry)) (now (pairs .entry)) (now (bytes .entry)) (now (used .exit)) ⌝ }
 {
@@ -112,9 +117,11 @@ fn unused_names(
     used: &[u8],
     names: &mut [u16],
 ) -> usize
-    requires { ⌜ Body (now rows) (now pairs) (now bytes) × DeclaredTable (now rows) (now pairs) (now bytes) (now «label_rows») × UsedTable (now rows) (now pairs) (now bytes) (now used) ⌝ }
+    requires { ⌜ Body (now rows) (now pairs) (now bytes) × DeclaredTable (now rows) (now pairs) (now bytes) (now «label_rows»)
+        × UsedTable (now rows) (now pairs) (now bytes) (now used) ⌝ }
     requires { ⌜ pairCount (now pairs) < length (now names) ⌝ }
-    ensures { λ r. ⌜ (r ≤ pairCount (now (pairs .entry))) × (r ≤ rowCount (now (rows .entry))) × UnusedTo (now (rows .entry)) (now (pairs .entry)) (now (bytes .entry)) (pairCount (now (pairs .entry))) (take r (now (names .exit))) ⌝ }
+    ensures { λ r. ⌜ (r ≤ pairCount (now (pairs .entry))) × (r ≤ rowCount (now (rows .entry)))
+        × UnusedTo (now (rows .entry)) (now (pairs .entry)) (now (bytes .entry)) (pairCount (now (pairs .entry))) (take r (now (names .exit))) ⌝ }
 {
     let count = pairs.len() / 2;
     let mut n = 0;
@@ -170,7 +177,8 @@ pub fn unused(
     sheet: &mut [u32],
     faults: usize,
 ) -> usize
-    requires { ⌜ Body (now rows) (now pairs) (now bytes) × DeclaredTable (now rows) (now pairs) (now bytes) (now «label_rows») × UsedTable (now rows) (now pairs) (now bytes) (now used) ⌝ }
+    requires { ⌜ Body (now rows) (now pairs) (now bytes) × DeclaredTable (now rows) (now pairs) (now bytes) (now «label_rows»)
+        × UsedTable (now rows) (now pairs) (now bytes) (now used) ⌝ }
     requires { ⌜ (pairCount (now pairs) < length (now names)) × (rowCount (now rows) ≤ length (now spare)) ⌝ }
     requires { ⌜ Reported faults (faultsLeft (now rows) (now pairs) (now bytes)) (now sheet) (now sheet) × (rowCount (now rows) * 8 ≤ length (now sheet)) ⌝ }
     ensures { λ r. ⌜ Reported r (sheetOf (now (rows .entry)) (now (pairs .entry)) (now (bytes .entry))) (now (sheet .entry)) (now (sheet .exit)) ⌝ }

@@ -52,7 +52,8 @@ fn decl_branches(
     requires { ⌜ Listing (now rows) (now pairs) (now bytes) (now lists) (suc (row .0)) ⌝ }
     requires { ⌜ Contexts (now rows) (now pairs) (now bytes) (row .0) (now «latest_decls») (now «latest_labels») ⌝ }
     requires { ⌜ (row .0 < rowCount (now rows)) × (isClass (now rows) declaration (row .0) ≡ true) ⌝ }
-    ensures { λ _. ⌜ ListTable (now (rows .entry)) (latestIn (now (rows .entry)) (now (pairs .entry)) (now (bytes .entry))) (suc (row .0)) (now («latest_decls» .exit)) ⌝ }
+    ensures { λ _. ⌜ ListTable (now (rows .entry)) (latestIn (now (rows .entry)) (now (pairs .entry)) (now (bytes .entry))) (suc (row .0))
+        (now («latest_decls» .exit)) ⌝ }
 {
     let r = row.0;
     let list = wide(lists[r]);
@@ -104,7 +105,8 @@ fn set_block_label(
     requires { ⌜ Listing (now rows) (now pairs) (now bytes) (now lists) (suc (row .0)) ⌝ }
     requires { ⌜ ListTable (now rows) (latestLabel (now rows) (now pairs) (now bytes)) (row .0) (now «latest_labels») ⌝ }
     requires { ⌜ (row .0 < rowCount (now rows)) × (isBlock (class (now rows) (row .0)) ≡ true) × (rowCount (now rows) ≤ length (now «goto_or_label»)) ⌝ }
-    ensures { λ _. ⌜ now («goto_or_label» .exit) ≡ set (now («goto_or_label» .entry)) (row .0) (word (currentLabel (now (rows .entry)) (now (pairs .entry)) (now (bytes .entry)) (row .0))) ⌝ }
+    ensures { λ _. ⌜ now («goto_or_label» .exit) ≡ set (now («goto_or_label» .entry)) (row .0)
+        (word (currentLabel (now (rows .entry)) (now (pairs .entry)) (now (bytes .entry)) (row .0))) ⌝ }
 {
     let r = row.0;
     goto_or_label[r] = current_label(rows, pairs, bytes, lists, latest_labels, row);
@@ -135,8 +137,10 @@ fn plain_branches(
     requires { ⌜ Listing (now rows) (now pairs) (now bytes) (now lists) (suc (row .0)) ⌝ }
     requires { ⌜ Contexts (now rows) (now pairs) (now bytes) (row .0) (now «latest_decls») (now «latest_labels») ⌝ }
     requires { ⌜ (row .0 < rowCount (now rows)) × (rowCount (now rows) ≤ length (now «goto_or_label»)) ⌝ }
-    ensures blocks { λ _. ⌜ BlockLabelled (now (rows .entry)) (now (pairs .entry)) (now (bytes .entry)) (row .0) (now («goto_or_label» .entry)) (now («goto_or_label» .exit)) ⌝ }
-    ensures decls { λ _. ⌜ ListTable (now (rows .entry)) (latestIn (now (rows .entry)) (now (pairs .entry)) (now (bytes .entry))) (suc (row .0)) (now («latest_decls» .exit)) ⌝ }
+    ensures blocks { λ _. ⌜ BlockLabelled (now (rows .entry)) (now (pairs .entry)) (now (bytes .entry)) (row .0) (now («goto_or_label» .entry))
+        (now («goto_or_label» .exit)) ⌝ }
+    ensures decls { λ _. ⌜ ListTable (now (rows .entry)) (latestIn (now (rows .entry)) (now (pairs .entry)) (now (bytes .entry))) (suc (row .0))
+        (now («latest_decls» .exit)) ⌝ }
 {
     let kind = rows::kind(rows, row);
     if rows::detail(rows, row) == 1 {
@@ -171,8 +175,10 @@ fn labeled_branches(
     requires { ⌜ Walking (now rows) (now pairs) (now bytes) (row .0) faults (now sheet) (now bindings) (now heads) (now «goto_or_label») ⌝ }
     requires { ⌜ Contexts (now rows) (now pairs) (now bytes) (row .0) (now «latest_decls») (now «latest_labels») ⌝ }
     requires { ⌜ (row .0 < rowCount (now rows)) × (class (now rows) (row .0) ≡ labeled) ⌝ }
-    ensures walked { λ r. ⌜ Walked (now (rows .entry)) (now (pairs .entry)) (now (bytes .entry)) (suc (row .0)) r (now (sheet .entry)) (now (bindings .entry)) (now (sheet .exit)) (now (bindings .exit)) (now (heads .exit)) (now («goto_or_label» .entry)) ⌝ }
-    ensures labels { λ _. ⌜ ListTable (now (rows .entry)) (latestLabel (now (rows .entry)) (now (pairs .entry)) (now (bytes .entry))) (suc (row .0)) (now («latest_labels» .exit)) ⌝ }
+    ensures walked { λ r. ⌜ Walked (now (rows .entry)) (now (pairs .entry)) (now (bytes .entry)) (suc (row .0)) r (now (sheet .entry)) (now (bindings .entry))
+        (now (sheet .exit)) (now (bindings .exit)) (now (heads .exit)) (now («goto_or_label» .entry)) ⌝ }
+    ensures labels { λ _. ⌜ ListTable (now (rows .entry)) (latestLabel (now (rows .entry)) (now (pairs .entry)) (now (bytes .entry))) (suc (row .0))
+        (now («latest_labels» .exit)) ⌝ }
 {
     if tables::canon_of(rows, canonical, row) == 0 {
         return faults;
@@ -228,8 +234,10 @@ fn stmt_branches(
     requires { ⌜ Walking (now rows) (now pairs) (now bytes) (row .0) faults (now sheet) (now bindings) (now heads) (now «goto_or_label») ⌝ }
     requires { ⌜ Contexts (now rows) (now pairs) (now bytes) (row .0) (now «latest_decls») (now «latest_labels») ⌝ }
     requires { ⌜ (row .0 < rowCount (now rows)) × ListAround (now rows) (here .list) (here .end) (row .0) ⌝ }
-    ensures walked { λ r. ⌜ Walked (now (rows .entry)) (now (pairs .entry)) (now (bytes .entry)) (suc (row .0)) (r .faults) (now (sheet .entry)) (now (bindings .entry)) (now (sheet .exit)) (now (bindings .exit)) (now (heads .exit)) (now («goto_or_label» .exit)) ⌝ }
-    ensures contexts { λ _. ⌜ Contexts (now (rows .entry)) (now (pairs .entry)) (now (bytes .entry)) (suc (row .0)) (now («latest_decls» .exit)) (now («latest_labels» .exit)) ⌝ }
+    ensures walked { λ r. ⌜ Walked (now (rows .entry)) (now (pairs .entry)) (now (bytes .entry)) (suc (row .0)) (r .faults) (now (sheet .entry))
+        (now (bindings .entry)) (now (sheet .exit)) (now (bindings .exit)) (now (heads .exit)) (now («goto_or_label» .exit)) ⌝ }
+    ensures contexts { λ _. ⌜ Contexts (now (rows .entry)) (now (pairs .entry)) (now (bytes .entry)) (suc (row .0)) (now («latest_decls» .exit))
+        (now («latest_labels» .exit)) ⌝ }
     ensures around { λ r. ⌜ InHand (now (rows .entry)) (r .list) (r .end) (row .0 + 1) ⌝ }
 {
     match rows::kind(rows, row) {
@@ -316,7 +324,8 @@ pub fn rows_branches(
     requires { ⌜ Tables (now rows) (now pairs) (now bytes) (now canonical) (now «label_rows») (now lists) 0 ⌝ }
     requires { ⌜ Walking (now rows) (now pairs) (now bytes) 0 0 (now sheet) (now bindings) (now heads) (now «goto_or_label») ⌝ }
     requires { ⌜ Contexts (now rows) (now pairs) (now bytes) 0 (now «latest_decls») (now «latest_labels») ⌝ }
-    ensures { λ r. ⌜ Walked (now (rows .entry)) (now (pairs .entry)) (now (bytes .entry)) (rowCount (now (rows .entry))) r (now (sheet .entry)) (now (bindings .entry)) (now (sheet .exit)) (now (bindings .exit)) (now (heads .exit)) (now («goto_or_label» .exit)) ⌝ }
+    ensures { λ r. ⌜ Walked (now (rows .entry)) (now (pairs .entry)) (now (bytes .entry)) (rowCount (now (rows .entry))) r (now (sheet .entry))
+        (now (bindings .entry)) (now (sheet .exit)) (now (bindings .exit)) (now (heads .exit)) (now («goto_or_label» .exit)) ⌝ }
 {
     let count = rows.len() / 5;
     let mut around = Around {

@@ -36,8 +36,10 @@ fn marks_of(
 ) -> Marking
     requires { ⌜ WellFormed (now rows) (now pairs) (now bytes) ⌝ }
     ensures answer { λ r. ⌜ given r ≡ marksCall (now (rows .entry)) (now (pairs .entry)) (now (bytes .entry)) (now (sheet .entry)) (now (bindings .entry)) ⌝ }
-    ensures sheet { λ _. ⌜ now (sheet .exit) ≡ labelCall (now (rows .entry)) (now (pairs .entry)) (now (bytes .entry)) (now (sheet .entry)) (now (bindings .entry)) .sheet-words ⌝ }
-    ensures bindings { λ _. ⌜ now (bindings .exit) ≡ labelCall (now (rows .entry)) (now (pairs .entry)) (now (bytes .entry)) (now (sheet .entry)) (now (bindings .entry)) .binding-words ⌝ }
+    ensures sheet { λ _. ⌜ now (sheet .exit) ≡ labelCall (now (rows .entry)) (now (pairs .entry)) (now (bytes .entry)) (now (sheet .entry))
+        (now (bindings .entry)) .sheet-words ⌝ }
+    ensures bindings { λ _. ⌜ now (bindings .exit) ≡ labelCall (now (rows .entry)) (now (pairs .entry)) (now (bytes .entry)) (now (sheet .entry))
+        (now (bindings .entry)) .binding-words ⌝ }
 {
     match label::labels_of(rows, pairs, bytes, sheet, bindings) {
         LabelAnswer::Refused(r) => Marking::Refused(r),
@@ -64,8 +66,10 @@ pub fn mark(
     bindings: &mut [u32],
 ) -> Marking
     ensures answer { λ r. ⌜ given r ≡ marksCall (now (rows .entry)) (now (pairs .entry)) (now (bytes .entry)) (now (sheet .entry)) (now (bindings .entry)) ⌝ }
-    ensures sheet { λ _. ⌜ now (sheet .exit) ≡ labelCall (now (rows .entry)) (now (pairs .entry)) (now (bytes .entry)) (now (sheet .entry)) (now (bindings .entry)) .sheet-words ⌝ }
-    ensures bindings { λ _. ⌜ now (bindings .exit) ≡ labelCall (now (rows .entry)) (now (pairs .entry)) (now (bytes .entry)) (now (sheet .entry)) (now (bindings .entry)) .binding-words ⌝ }
+    ensures sheet { λ _. ⌜ now (sheet .exit) ≡ labelCall (now (rows .entry)) (now (pairs .entry)) (now (bytes .entry)) (now (sheet .entry))
+        (now (bindings .entry)) .sheet-words ⌝ }
+    ensures bindings { λ _. ⌜ now (bindings .exit) ≡ labelCall (now (rows .entry)) (now (pairs .entry)) (now (bytes .entry)) (now (sheet .entry))
+        (now (bindings .entry)) .binding-words ⌝ }
 {
     match body::refusal_of(rows, pairs, bytes) {
         Checked::Refused(r) => Marking::Refused(r),

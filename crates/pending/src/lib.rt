@@ -50,7 +50,9 @@ fn resolve(
     end: usize,
 ) -> usize
     requires { ⌜ Resolving (now rows) (now sheet) (now bindings) (now «goto_or_label») head (row .0) list latest end ⌝ }
-    ensures { λ r. ⌜ ((gs : List ℕ) (last : ℕ) → Chain (now («goto_or_label» .entry)) list head gs last → Resolved (now (rows .entry)) (now (sheet .entry)) (now (bindings .entry)) (now (sheet .exit)) (now (bindings .exit)) (row .0) latest end last r gs) ⌝ }
+    ensures { λ r. ⌜ ((gs : List ℕ) (last : ℕ) → Chain (now («goto_or_label» .entry)) list head gs last
+        → Resolved (now (rows .entry)) (now (sheet .entry)) (now (bindings .entry)) (now (sheet .exit)) (now (bindings .exit)) (row .0) latest end last r gs)
+        ⌝ }
 {
     let mut at = end;
     let mut g = head;
@@ -78,7 +80,8 @@ fn declare(
     requires { ⌜ (row .0 < rowCount (now rows)) × (row .0 < length (now bindings)) ⌝ }
     requires { ⌜ (0 < declared) × (declared ≤ rowCount (now rows)) × (rowCount (now rows) ≤ 2000) ⌝ }
     requires { ⌜ ((declared ≡ suc (row .0) → ⊥) → faults * 4 + 8 ≤ length (now sheet)) ⌝ }
-    ensures { λ r. ⌜ Declaring (now (rows .entry)) (now (sheet .entry)) (now (bindings .entry)) (now (sheet .exit)) (now (bindings .exit)) declared (row .0) faults r ⌝ }
+    ensures { λ r. ⌜ Declaring (now (rows .entry)) (now (sheet .entry)) (now (bindings .entry)) (now (sheet .exit)) (now (bindings .exit)) declared (row .0)
+        faults r ⌝ }
 {
     let r = row.0;
     if declared == r + 1 {
@@ -111,7 +114,8 @@ pub fn label_branches(
     requires { ⌜ Walking (now rows) (now pairs) (now bytes) (row .0) faults (now sheet) (now bindings) (now heads) (now «goto_or_label») ⌝ }
     requires { ⌜ (row .0 < rowCount (now rows)) × (isLabel (now rows) (now pairs) (now bytes) (row .0) ≡ true) ⌝ }
     requires { ⌜ latest ≡ word (latestDeclaration (now rows) (now pairs) (now bytes) (row .0)) ⌝ }
-    ensures { λ r. ⌜ Walked (now (rows .entry)) (now (pairs .entry)) (now (bytes .entry)) (suc (row .0)) r (now (sheet .entry)) (now (bindings .entry)) (now (sheet .exit)) (now (bindings .exit)) (now (heads .exit)) (now («goto_or_label» .entry)) ⌝ }
+    ensures { λ r. ⌜ Walked (now (rows .entry)) (now (pairs .entry)) (now (bytes .entry)) (suc (row .0)) r (now (sheet .entry)) (now (bindings .entry))
+        (now (sheet .exit)) (now (bindings .exit)) (now (heads .exit)) (now («goto_or_label» .entry)) ⌝ }
 {
     let c = tables::canon_of(rows, canonical, row);
     let r = row.0;

@@ -22,8 +22,10 @@ pub const ROOM: usize = 210000;
 
 // The output for a body that isn't refused, from its sheet, its bindings, a word a row, and its marks.
 fn marked_text(sheet: &[u32], bindings: &[u32], marks: Marks, out: &mut [u8]) -> usize
-    requires { ⌜ (marks .faults * 4 ≤ lengthOf (now sheet)) × ((lengthOf (now sheet) ≤ 16000) × ((lengthOf (now bindings) ≤ 2000) × (210000 ≤ lengthOf (now out)))) ⌝ }
-    ensures text { λ r. ⌜ take r (now (out .exit)) ≡ sheetLines (now (sheet .entry)) (marks .faults) ++ bindsText (now (bindings .entry)) ++ placedText (place (marks .placed)) ++ verdictText (marks .terminating) ⌝ }
+    requires { ⌜ (marks .faults * 4 ≤ lengthOf (now sheet))
+        × ((lengthOf (now sheet) ≤ 16000) × ((lengthOf (now bindings) ≤ 2000) × (210000 ≤ lengthOf (now out)))) ⌝ }
+    ensures text { λ r. ⌜ take r (now (out .exit)) ≡ sheetLines (now (sheet .entry)) (marks .faults) ++ bindsText (now (bindings .entry)) ++ placedText
+        (place (marks .placed)) ++ verdictText (marks .terminating) ⌝ }
     ensures counts { λ r. ⌜ Counts r (now (out .exit)) ⌝ }
 {
     let placed = marks.placed;
@@ -53,7 +55,9 @@ fn body_text(rows: &[u32], pairs: &[u32], bytes: &[u8], out: &mut [u8]) -> usize
 // The output for a file whose counts are within their limits and that has the length it says; its
 // words go into the two slices.
 fn decoded_text(file: &[u8], row_words: &mut [u32], pair_words: &mut [u32], out: &mut [u8]) -> usize
-    requires { ⌜ (Within (now file)) × ((lengthOf (now file) ≡ said (now file)) × ((10000 ≤ lengthOf (now «row_words»)) × ((1000 ≤ lengthOf (now «pair_words»)) × (210000 ≤ lengthOf (now out))))) ⌝ }
+    requires { ⌜ (Within (now file))
+        × ((lengthOf (now file) ≡ said (now file))
+        × ((10000 ≤ lengthOf (now «row_words»)) × ((1000 ≤ lengthOf (now «pair_words»)) × (210000 ≤ lengthOf (now out))))) ⌝ }
     ensures text { λ r. ⌜ take r (now (out .exit)) ≡ bodyText (rowWords (now (file .entry))) (pairWords (now (file .entry))) (nameBytes (now (file .entry))) ⌝ }
     ensures counts { λ r. ⌜ Counts r (now (out .exit)) ⌝ }
 {

@@ -16,7 +16,18 @@ ghost use Rattle.rules.specs.Labels.{isClass};
 ghost use Rattle.rules.specs.Body.{Sized, Detailed, Body};
 ghost use Rattle.rules.specs.Calls.{verdictCall};
 ghost use Rattle.returns.specs.Given.{given};
-ghost use Rattle.returns.specs.Search.{labelNumber, Closed, Statements, OneRowEmpties, UnlessEmpty, Lasts, isTerminating, isTerminatingList, leaves, anyLeaves};
+ghost use Rattle.returns.specs.Search.{
+  labelNumber,
+  Closed,
+  Statements,
+  OneRowEmpties,
+  UnlessEmpty,
+  Lasts,
+  isTerminating,
+  isTerminatingList,
+  leaves,
+  anyLeaves,
+};
 
 pub enum Verdict {
     Refused(Refusal),
@@ -33,7 +44,8 @@ pub fn is_terminating(
     row: RowNumber,
     label: NameNumber,
 ) -> bool
-    requires { ⌜ Body (now rows) (now pairs) (now bytes) × (row .0 < rowCount (now rows)) × (isStatement (class (now rows) (row .0)) ≡ true) × (label .0 ≡ labelNumber (now rows) (row .0)) ⌝ }
+    requires { ⌜ Body (now rows) (now pairs) (now bytes) × (row .0 < rowCount (now rows)) × (isStatement (class (now rows) (row .0)) ≡ true)
+        × (label .0 ≡ labelNumber (now rows) (row .0)) ⌝ }
     ensures { λ r. ⌜ r ≡ isTerminating (now (rows .entry)) (now (pairs .entry)) (now (bytes .entry)) (row .0) ⌝ }
 {
     let kind = rows::kind(rows, row);
@@ -77,7 +89,8 @@ fn is_terminating_list(
     from: RowNumber,
     end: usize,
 ) -> bool
-    requires { ⌜ Body (now rows) (now pairs) (now bytes) × Closed (now rows) (from .0) end × Statements (now rows) (from .0) end × (labelNumber (now rows) (from .0) ≡ 0) ⌝ }
+    requires { ⌜ Body (now rows) (now pairs) (now bytes) × Closed (now rows) (from .0) end × Statements (now rows) (from .0) end
+        × (labelNumber (now rows) (from .0) ≡ 0) ⌝ }
     ensures { λ r. ⌜ r ≡ isTerminatingList (now (rows .entry)) (now (pairs .entry)) (now (bytes .entry)) end (from .0) ⌝ }
 {
     match last_item(rows, from, end) {
@@ -131,7 +144,9 @@ fn is_terminating_switch(
     label: NameNumber,
     found: bool,
 ) -> bool
-    requires { ⌜ Body (now rows) (now pairs) (now bytes) × (row .0 < rowCount (now rows)) × ((isSwitch (class (now rows) (row .0)) || isClass (now rows) select (row .0)) ≡ true) × (found ≡ isClass (now rows) select (row .0)) × (label .0 ≡ labelNumber (now rows) (row .0)) ⌝ }
+    requires { ⌜ Body (now rows) (now pairs) (now bytes) × (row .0 < rowCount (now rows))
+        × ((isSwitch (class (now rows) (row .0)) || isClass (now rows) select (row .0)) ≡ true) × (found ≡ isClass (now rows) select (row .0))
+        × (label .0 ≡ labelNumber (now rows) (row .0)) ⌝ }
     ensures { λ r. ⌜ r ≡ isTerminating (now (rows .entry)) (now (pairs .entry)) (now (bytes .entry)) (row .0) ⌝ }
 {
     let mut has_default = found;
@@ -192,7 +207,8 @@ fn has_break(
     implicit: bool,
 ) -> bool
     requires { ⌜ Body (now rows) (now pairs) (now bytes) × (row .0 < rowCount (now rows)) ⌝ }
-    ensures { λ r. ⌜ r ≡ anyLeaves (now (rows .entry)) (now (pairs .entry)) (now (bytes .entry)) (row .0) (end (now (rows .entry)) (row .0)) (label .0) implicit ⌝ }
+    ensures { λ r. ⌜ r ≡ anyLeaves (now (rows .entry)) (now (pairs .entry)) (now (bytes .entry)) (row .0) (end (now (rows .entry)) (row .0)) (label .0)
+        implicit ⌝ }
 {
     let kind = rows::kind(rows, row);
     if kind == kinds::BRANCH {

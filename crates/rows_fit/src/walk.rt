@@ -114,7 +114,8 @@ fn may_be_item(items: u32, kind: u32) -> bool
 // below it. A row whose only child fills it is followed by that child; only lists take a call.
 fn statement_fits(rows: &[u32], pair_count: usize, row: RowNumber, depth: usize) -> bool
     requires { ⌜ Met (now rows) (row .0) depth × (0 < row .0) ⌝ }
-    ensures { λ r. ⌜ (r ≡ true → (p : List ℕ) → pairCount p ≡ «pair_count» → Right (now (rows .entry)) p (row .0) × RightBelow (now (rows .entry)) p (row .0)) ⌝ }
+    ensures { λ r. ⌜ (r ≡ true → (p : List ℕ) → pairCount p ≡ «pair_count» → Right (now (rows .entry)) p (row .0)
+        × RightBelow (now (rows .entry)) p (row .0)) ⌝ }
 {
     let end = row.0 + rows::size(rows, row);
     let mut c = row.0;

@@ -136,7 +136,8 @@ fn at_least(holding: Holding) -> usize
 // Whether the children of the row fill it and each may stand there.
 fn children_fit(rows: &[u32], row: RowNumber, holding: Holding) -> bool
     requires { ⌜ (row .0 < rowCount (now rows)) × Sized (now rows) × Detailed (now rows) ⌝ }
-    ensures { λ r. ⌜ r ≡ childrenFit (size (now (rows .entry)) (row .0)) (now (rows .entry)) (held holding) (end (now (rows .entry)) (row .0)) 0 (suc (row .0)) ⌝ }
+    ensures { λ r. ⌜ r ≡ childrenFit (size (now (rows .entry)) (row .0)) (now (rows .entry)) (held holding) (end (now (rows .entry)) (row .0)) 0
+        (suc (row .0)) ⌝ }
 {
     let end = row.0 + rows::size(rows, row);
     let mut c = row.0 + 1;

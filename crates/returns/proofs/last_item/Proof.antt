@@ -148,7 +148,8 @@ loop2-again c =
       omega arith,
       omega (arith, s .pre .0 .some-rows (n + 1) h),
       omega (arith, s .pre .0 .within (n + 1) h),
-      λ b v. step (s .pre .1) (rw (i .before .loop2-test .taken) at (l .loop2 .inv .4 b v)) more (s .pre .2) (c .size2 .ensures) (c .before .unless-empty2 .ensures),
+      λ b v. step (s .pre .1) (rw (i .before .loop2-test .taken) at (l .loop2 .inv .4 b v)) more (s .pre .2)
+          (c .size2 .ensures) (c .before .unless-empty2 .ensures),
     )
 
 add-c-2 : tie.Need-add-c-2 Inv-loop2 μ-loop2 Inv-loop μ-loop
