@@ -1,22 +1,22 @@
 // The answers: what stands on each answer line.
-use crate::show;
 use body::Checked;
 use label::LabelAnswer;
 use placing::Placing;
 use refusals::Refusal;
 use returns::Verdict;
+use testing::show;
 
 pub fn refusal(rows: &[u32], pairs: &[u32], bytes: &[u8]) {
     show::text(b"refusal ");
     match body::refusal_of(rows, pairs, bytes) {
-        Checked::Refused(r) => show::refusal(r),
+        Checked::Refused(r) => show::refusal(r, b""),
         Checked::WellFormed => show::text(b"ok"),
     }
 }
 
 fn refused(refusal: Refusal) {
     show::text(b" refused ");
-    show::refusal(refusal);
+    show::refusal(refusal, b"");
 }
 
 pub fn placed(rows: &[u32], pairs: &[u32], bytes: &[u8]) {
@@ -25,7 +25,7 @@ pub fn placed(rows: &[u32], pairs: &[u32], bytes: &[u8]) {
         Placing::Refused(r) => refused(r),
         Placing::Bad(r) => {
             show::text(b" no ");
-            show::number(r.0);
+            show::number(r.0, b"");
         }
         Placing::Well => show::text(b" yes"),
     }
@@ -46,7 +46,8 @@ fn sheet_row(sheet: &[u32], row: usize) {
         show::text(b",");
     }
     if row < sheet.len() / 4 {
-        show::words(&sheet[row * 4..row * 4 + 4]);
+        show::text(b" ");
+        show::words(&sheet[row * 4..row * 4 + 4], b"");
     }
 }
 
@@ -74,7 +75,8 @@ pub fn sheet(rows: &[u32], pairs: &[u32], bytes: &[u8]) {
 // The words of the first `count` rows, if there are so many.
 fn first(bindings: &[u32], count: usize) {
     if count <= bindings.len() {
-        show::words(&bindings[0..count]);
+        show::text(b" ");
+        show::words(&bindings[0..count], b"");
     }
 }
 

@@ -4,11 +4,11 @@
 mod answers;
 mod kinds;
 mod lines;
-mod show;
 mod words;
 
 use libc::STDIN_FILENO;
 use lines::Used;
+use testing::show;
 
 // Goes through the lines of a list, with room for the words and bytes of one body.
 fn all_lines(list: &[u8], rows: &mut [u32], pairs: &mut [u32], name_bytes: &mut [u8]) {

@@ -229,8 +229,8 @@ pub fn labels_of(
     bindings: &mut [u32],
 ) -> LabelAnswer
     requires { ⌜ WellFormed (now rows) (now pairs) (now bytes) ⌝ }
-    ensures answer { λ r. ⌜ given r ≡ labelCall (now (rows .entry)) (now (pairs .entry)) (now (bytes .entry)) (now (sheet .entry)) (now (bindings .entry))
-        .answer ⌝ }
+    ensures answer { λ r. ⌜ given r
+        ≡ labelCall (now (rows .entry)) (now (pairs .entry)) (now (bytes .entry)) (now (sheet .entry)) (now (bindings .entry)) .answer ⌝ }
     ensures sheet { λ r. ⌜ now (sheet .exit) ≡ labelCall (now (rows .entry)) (now (pairs .entry)) (now (bytes .entry)) (now (sheet .entry))
         (now (bindings .entry)) .sheet-words ⌝ }
     ensures bindings { λ r. ⌜ now (bindings .exit) ≡ labelCall (now (rows .entry)) (now (pairs .entry)) (now (bytes .entry)) (now (sheet .entry))
@@ -255,12 +255,12 @@ pub fn labels(
     sheet: &mut [u32],
     bindings: &mut [u32],
 ) -> LabelAnswer
-    ensures answer { λ r. ⌜ given r ≡ labelCall (now (rows .entry)) (now (pairs .entry)) (now (bytes .entry)) (now (sheet .entry)) (now (bindings .entry))
-        .answer ⌝ }
-    ensures sheet { λ _. ⌜ now (sheet .exit) ≡ labelCall (now (rows .entry)) (now (pairs .entry)) (now (bytes .entry)) (now (sheet .entry))
-        (now (bindings .entry)) .sheet-words ⌝ }
-    ensures bindings { λ _. ⌜ now (bindings .exit) ≡ labelCall (now (rows .entry)) (now (pairs .entry)) (now (bytes .entry)) (now (sheet .entry))
-        (now (bindings .entry)) .binding-words ⌝ }
+    ensures answer { λ r. ⌜ given r
+        ≡ labelCall (now (rows .entry)) (now (pairs .entry)) (now (bytes .entry)) (now (sheet .entry)) (now (bindings .entry)) .answer ⌝ }
+    ensures sheet { λ _. ⌜ now (sheet .exit)
+        ≡ labelCall (now (rows .entry)) (now (pairs .entry)) (now (bytes .entry)) (now (sheet .entry)) (now (bindings .entry)) .sheet-words ⌝ }
+    ensures bindings { λ _. ⌜ now (bindings .exit)
+        ≡ labelCall (now (rows .entry)) (now (pairs .entry)) (now (bytes .entry)) (now (sheet .entry)) (now (bindings .entry)) .binding-words ⌝ }
 {
     match body::refusal_of(rows, pairs, bytes) {
         Checked::Refused(r) => LabelAnswer::Refused(r),

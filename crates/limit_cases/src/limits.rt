@@ -1,14 +1,15 @@
 // Every limit and one past it: for each body its refusal, the number and the index, or `ok`.
-use crate::fill;
-use crate::fill::Row;
-use crate::fill::Run;
-use crate::show;
 use body::Checked;
+use rows::kinds;
 use std::num::wrapping_sub_u32;
+use testing::fill;
+use testing::fill::Row;
+use testing::fill::Run;
+use testing::show;
 
 fn refusal(rows: &[u32], pairs: &[u32], bytes: &[u8]) {
     match body::refusal_of(rows, pairs, bytes) {
-        Checked::Refused(r) => show::refusal(r),
+        Checked::Refused(r) => show::refusal(r, b"\n"),
         Checked::WellFormed => show::line(b"ok"),
     }
 }
@@ -16,7 +17,7 @@ fn refusal(rows: &[u32], pairs: &[u32], bytes: &[u8]) {
 // The refusal of a Block of the first rows, with the names M (1) and L (2).
 fn block(words: &mut [u32], count: u32) {
     let end = count as usize * 5;
-    fill::one_row(words, 0, Row(fill::BLOCK, 0, 0, count));
+    fill::one_row(words, 0, Row(kinds::BLOCK, 0, 0, count));
     if end <= words.len() {
         refusal(&words[0..end], &[0u32, 1, 1, 1], b"ML");
     }
@@ -24,7 +25,7 @@ fn block(words: &mut [u32], count: u32) {
 
 // Empties.
 fn flat(words: &mut [u32], count: u32) {
-    fill::rows(words, Run(1, 1, count), Row(fill::EMPTY, 0, 0, 1), 0, 0);
+    fill::rows(words, Run(1, 1, count), Row(kinds::EMPTY, 0, 0, 1), 0, 0);
     block(words, count);
 }
 
@@ -51,30 +52,42 @@ fn bytes() {
 
 // Blocks, each in the one before.
 fn nested(words: &mut [u32], count: u32) {
-    fill::rows(words, Run(0, 1, count), Row(fill::BLOCK, 0, 0, count), 0, 1);
+    fill::rows(
+        words,
+        Run(0, 1, count),
+        Row(kinds::BLOCK, 0, 0, count),
+        0,
+        1,
+    );
     block(words, count);
 }
 
 // 101 Blocks with a Case for the last, which is a fault of shape and comes before that of depth.
 fn case_last(words: &mut [u32]) {
-    fill::one_row(words, 100, Row(fill::CASE, 0, 0, 1));
+    fill::one_row(words, 100, Row(kinds::CASE, 0, 0, 1));
     block(words, 101);
 }
 
 // Labeled in Labeled down to an Empty.
 fn labelled(words: &mut [u32], count: u32) {
     let last = wrapping_sub_u32(count, 1);
-    fill::rows(words, Run(1, 1, last), Row(fill::LABELED, 0, 1, last), 0, 1);
-    fill::one_row(words, last, Row(fill::EMPTY, 0, 0, 1));
+    fill::rows(
+        words,
+        Run(1, 1, last),
+        Row(kinds::LABELED, 0, 1, last),
+        0,
+        1,
+    );
+    fill::one_row(words, last, Row(kinds::EMPTY, 0, 0, 1));
     block(words, count);
 }
 
 // Ifs with a Block each, and each but the last with the next for its else.
 fn else_chain(words: &mut [u32], ifs: u32, count: u32) {
     let rest = wrapping_sub_u32(count, 1);
-    fill::rows(words, Run(1, 2, ifs), Row(fill::IF, 1, 0, rest), 0, 2);
-    fill::rows(words, Run(2, 2, ifs), Row(fill::BLOCK, 0, 0, 1), 0, 0);
-    fill::one_row(words, wrapping_sub_u32(count, 2), Row(fill::IF, 0, 0, 2));
+    fill::rows(words, Run(1, 2, ifs), Row(kinds::IF, 1, 0, rest), 0, 2);
+    fill::rows(words, Run(2, 2, ifs), Row(kinds::BLOCK, 0, 0, 1), 0, 0);
+    fill::one_row(words, wrapping_sub_u32(count, 2), Row(kinds::IF, 0, 0, 2));
     block(words, count);
 }
 

@@ -3,8 +3,8 @@
 use lib.ListN.{length}
 use mathlib.Core.Path.{_≡_}
 use borrow.Author.Needs.{needs}
-use Rattle.limit_cases.proofs.fill.words.Statement.{statement}
-use Rattle.limit_cases.proofs.fill.words.Tie as tie
+use Rattle.testing.proofs.fill.words.Statement.{statement}
+use Rattle.testing.proofs.fill.words.Tie as tie
 
 abbrev Inv-loop : tie.InvT-loop
 Inv-loop words₀ first step count word more at₀ next₀ left₀ words at next left = length words ≡ length words₀

@@ -3,8 +3,8 @@
 use lib.ListN.{length}
 use Prim.Native.Nat.{_≤_, _-_}
 use borrow.Author.Needs.{needs}
-use Rattle.limit_cases.proofs.show.words.Statement.{statement}
-use Rattle.limit_cases.proofs.show.words.Tie as tie
+use Rattle.testing.proofs.show.words.Statement.{statement}
+use Rattle.testing.proofs.show.words.Tie as tie
 
 abbrev Inv-loop : tie.InvT-loop
 Inv-loop words i₀ t3 i = i ≤ length words
@@ -33,9 +33,6 @@ loop-less c = search needs
 loop-again : tie.Need-loop-again Inv-loop μ-loop
 loop-again c = search needs
 
-slice-aggregate-text : tie.Need-slice-aggregate-text Inv-loop μ-loop
-slice-aggregate-text c = search needs
-
 text-requires : tie.Need-text-requires Inv-loop μ-loop
 text-requires c κs = search needs
 
@@ -55,6 +52,5 @@ words-spec =
     add-i
     loop-less
     loop-again
-    slice-aggregate-text
     text-requires
     returns)

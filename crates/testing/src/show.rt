@@ -26,23 +26,18 @@ fn word(i: usize, word: u32) {
     number(word as usize, b"");
 }
 
-// Words on a line.
-pub fn words(words: &[u32]) {
+// Words with a blank between them, and the text after them.
+pub fn words(words: &[u32], after: &[u8]) {
     let mut i = 0;
     while i < words.len() {
         word(i, words[i]);
         i += 1;
     }
-    text(b"\n");
+    text(after);
 }
 
-pub fn titled_words(title: &[u8], list: &[u32]) {
-    text(title);
-    words(list);
-}
-
-// The number and the index of a refusal, on a line.
-pub fn refusal(refusal: Refusal) {
+// The number and the index of a refusal, and the text after them.
+pub fn refusal(refusal: Refusal, after: &[u8]) {
     number(refusals::number_of(refusal) as usize, b" ");
-    number(refusals::index_of(refusal), b"\n");
+    number(refusals::index_of(refusal), after);
 }

@@ -4,8 +4,8 @@ use lib.ListN.{length}
 use mathlib.Core.Path.{_≡_}
 use Prim.Native.Nat.{_-_}
 use borrow.Author.Needs.{needs}
-use Rattle.limit_cases.proofs.fill.names.Statement.{statement}
-use Rattle.limit_cases.proofs.fill.names.Tie as tie
+use Rattle.testing.proofs.fill.names.Statement.{statement}
+use Rattle.testing.proofs.fill.names.Tie as tie
 
 abbrev Inv-loop : tie.InvT-loop
 Inv-loop bytes₀ i₀ bytes i = length bytes ≡ length bytes₀

@@ -3,23 +3,6 @@ use std::num::wrapping_add_u32;
 use std::num::wrapping_add_usize;
 use std::num::wrapping_sub_u32;
 
-// The kinds in use, and the detail of a goto.
-pub const EMPTY: u32 = 2;
-
-pub const LABELED: u32 = 3;
-
-pub const RETURN: u32 = 10;
-
-pub const BRANCH: u32 = 11;
-
-pub const BLOCK: u32 = 12;
-
-pub const IF: u32 = 13;
-
-pub const CASE: u32 = 14;
-
-pub const GOTO: u32 = 2;
-
 // The kind, detail, name and size of a row. Its position is 1.
 pub struct Row(pub u32, pub u32, pub u32, pub u32);
 

@@ -1,13 +1,13 @@
 // Buffers exactly long enough, one word short, and longer. Each is lent full of 77s; words that the
 // call does not write must still be 77.
-use crate::show;
 use label::LabelAnswer;
+use testing::show;
 
 fn answer(answer: LabelAnswer) {
     match answer {
         LabelAnswer::Refused(r) => {
             show::text(b"refused ");
-            show::refusal(r);
+            show::refusal(r, b"\n");
         }
         LabelAnswer::Faults(n) => show::number(n, b" faults\n"),
     }
@@ -16,8 +16,10 @@ fn answer(answer: LabelAnswer) {
 // The call with the name L (1): the answer, then all words of both buffers.
 fn lend(rows: &[u32], sheet: &mut [u32], bindings: &mut [u32]) {
     answer(label::labels(rows, &[0u32, 1], b"L", sheet, bindings));
-    show::titled_words(b"sheet ", sheet);
-    show::titled_words(b"bindings ", bindings);
+    show::text(b"sheet ");
+    show::words(sheet, b"\n");
+    show::text(b"bindings ");
+    show::words(bindings, b"\n");
 }
 
 // The same with a sheet of s words and bindings of b words.

@@ -3,8 +3,8 @@
 use lib.ListN.{length}
 use Prim.Native.Nat.{_≤_, _-_}
 use borrow.Author.Needs.{needs}
-use Rattle.limit_cases.proofs.large.sum.Statement.{statement}
-use Rattle.limit_cases.proofs.large.sum.Tie as tie
+use Rattle.label_cases.proofs.large.sum.Statement.{statement}
+use Rattle.label_cases.proofs.large.sum.Tie as tie
 
 abbrev Inv-loop : tie.InvT-loop
 Inv-loop words total₀ i₀ total i = i ≤ length words

@@ -1,12 +1,14 @@
 // 2,000 rows of labels and gotos of one name, and 500 names. For each body: the sheet's row count,
 // its first and last rows, and the sum of the bindings.
-use crate::fill;
-use crate::fill::Row;
-use crate::fill::Run;
-use crate::show;
 use label::LabelAnswer;
+use rows::details;
+use rows::kinds;
 use std::num::wrapping_add_u32;
 use std::num::wrapping_sub_usize;
+use testing::fill;
+use testing::fill::Row;
+use testing::fill::Run;
+use testing::show;
 
 fn sum(words: &[u32]) -> u32 {
     let mut total: u32 = 0;
@@ -21,7 +23,7 @@ fn sum(words: &[u32]) -> u32 {
 // One row of the sheet, if there is such a row.
 fn sheet_row(sheet: &[u32], row: usize) {
     if row < sheet.len() / 4 {
-        show::words(&sheet[row * 4..row * 4 + 4]);
+        show::words(&sheet[row * 4..row * 4 + 4], b"\n");
     }
 }
 
@@ -36,7 +38,7 @@ fn summary(rows: &[u32], pairs: &[u32], bytes: &[u8]) {
     let mut sheet = [0u32; 16000];
     let mut bindings = [0u32; 2000];
     match label::labels(rows, pairs, bytes, &mut sheet, &mut bindings) {
-        LabelAnswer::Refused(r) => show::refusal(r),
+        LabelAnswer::Refused(r) => show::refusal(r, b"\n"),
         LabelAnswer::Faults(n) => answer(n, &sheet, &bindings),
     }
 }
@@ -44,7 +46,7 @@ fn summary(rows: &[u32], pairs: &[u32], bytes: &[u8]) {
 // The summary of a Block of the first rows.
 fn block(words: &mut [u32], count: u32, pairs: &[u32], bytes: &[u8]) {
     let end = count as usize * 5;
-    fill::one_row(words, 0, Row(fill::BLOCK, 0, 0, count));
+    fill::one_row(words, 0, Row(kinds::BLOCK, 0, 0, count));
     if end <= words.len() {
         summary(&words[0..end], pairs, bytes);
     }
@@ -57,7 +59,7 @@ fn labels(words: &mut [u32], first: u32, count: u32, more: u32, on: Row) {
     fill::rows(
         words,
         Run(first, 2, count),
-        Row(fill::LABELED, 0, 1, 2),
+        Row(kinds::LABELED, 0, 1, 2),
         more,
         0,
     );
@@ -67,8 +69,8 @@ fn labels(words: &mut [u32], first: u32, count: u32, more: u32, on: Row) {
 // 999 times `L: goto L`, and an Empty.
 fn labels_and_gotos(words: &mut [u32]) {
     show::line(b"999 L: goto L");
-    labels(words, 1, 999, 0, Row(fill::BRANCH, fill::GOTO, 1, 1));
-    fill::one_row(words, 1999, Row(fill::EMPTY, 0, 0, 1));
+    labels(words, 1, 999, 0, Row(kinds::BRANCH, details::GOTO, 1, 1));
+    fill::one_row(words, 1999, Row(kinds::EMPTY, 0, 0, 1));
     block(words, 2000, &[0u32, 1], b"L");
 }
 
@@ -78,11 +80,11 @@ fn gotos_then_labels(words: &mut [u32]) {
     fill::rows(
         words,
         Run(1, 1, 999),
-        Row(fill::BRANCH, fill::GOTO, 1, 1),
+        Row(kinds::BRANCH, details::GOTO, 1, 1),
         0,
         0,
     );
-    labels(words, 1000, 500, 0, Row(fill::EMPTY, 0, 0, 1));
+    labels(words, 1000, 500, 0, Row(kinds::EMPTY, 0, 0, 1));
     block(words, 2000, &[0u32, 1], b"L");
 }
 
@@ -93,7 +95,7 @@ fn many_names(words: &mut [u32]) {
     let mut bytes = [0u8; 1000];
     fill::pairs(&mut pairs, 500, 2);
     fill::names(&mut bytes);
-    labels(words, 1, 500, 1, Row(fill::EMPTY, 0, 0, 1));
+    labels(words, 1, 500, 1, Row(kinds::EMPTY, 0, 0, 1));
     block(words, 1001, &pairs, &bytes);
 }
 
