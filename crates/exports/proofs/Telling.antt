@@ -2,7 +2,7 @@
 -- Assumes nothing.
 use mathlib.Core.Path.{_≡_, refl, sym, _∙_, ap}
 use mathlib.Core.Bool.{Bool, true, false, _&&_}
-use mathlib.Core.List.{List}
+use mathlib.Core.List.{List, [], _∷_}
 use mathlib.Core.Option.{Option, none, some}
 use Prim.Native.Nat.{ℕ, _+_, _-_, _≤_, _<_}
 use native.Mathlib.Omega.{arith}
@@ -14,6 +14,7 @@ use Rattle.rules.specs.Names.{pairCount, offset, len, namesOk, nameBytes}
 use Rattle.rules.specs.Refusals.{refusal}
 use Rattle.rules.specs.Placing.{badlyPlaced, placing}
 use Rattle.rules.specs.Calls.{Answer, refused, answered, labelCall, placingCall, verdictCall}
+use Rattle.rules.proofs.Computed.{computed}
 use Rattle.rules.proofs.Facts.{body}
 use Rattle.rules.proofs.Pairs.{ok-pair}
 use Rattle.rules.proofs.Scan.{lowest-found}
@@ -120,3 +121,18 @@ module _ (p b : List ℕ) (n : ℕ) where
       let y = and-true (ltb 0 n) (leb n (pairCount p)) (x .1) in
       rw (named t) (ok-pair p b (x .0) (n - 1) (omega (arith, ltb-true 0 n (y .0), leb-true n (pairCount p) (y .1))) .within))
       (λ t. rw (unnamed t) (omega arith))
+
+-- ---- on names: the bytes LM with the pairs of L (1) and M (2); number 3 is none
+abbrev lm : List ℕ
+lm = 76 ∷ 77 ∷ []
+
+abbrev lm-pairs : List ℕ
+lm-pairs = 0 ∷ 1 ∷ 1 ∷ 1 ∷ []
+
+second-name : (take (toldName lm-pairs lm 2 .1) (drop (toldName lm-pairs lm 2 .0) lm) ≡ 77 ∷ [])
+    × (take (toldName lm-pairs lm 3 .1) (drop (toldName lm-pairs lm 3 .0) lm) ≡ [])
+unfolding computed nameBytes
+second-name = (told-part lm-pairs lm 2, told-part lm-pairs lm 3)
+
+second-within : toldName lm-pairs lm 2 .0 + toldName lm-pairs lm 2 .1 ≤ 2
+second-within = told-within lm-pairs lm 2

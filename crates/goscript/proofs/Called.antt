@@ -1,6 +1,5 @@
--- With the calls' equations: on every well-formed body the label call gives the sheet and the bindings of the mended goscript, and the verdict call
--- its verdict;
--- in stock's two domains the calls give stock's. A build that has a body's sheet and bindings, or its verdict, is what the call on it answers.
+-- With the calls' equations: on every well-formed body the label call gives the sheet and the bindings of the mended goscript, and the verdict call its
+-- verdict; in stock's two domains the calls give stock's. A build that has a body's sheet and bindings, or its verdict, is what the call on it answers.
 -- Assumes nothing.
 use mathlib.Core.Path.{_≡_}
 use mathlib.Core.Bool.{true, false}

@@ -1,6 +1,5 @@
--- The state of goscript's walk when it stands at row x in the list of row l, as functions of x: each part of the state is told by what it answers, so
--- that a row
--- that changes nothing there changes nothing here.
+-- The state of goscript's walk when it stands at row x in the list of row l, as functions of x: each part of the state is told by what it answers, so that
+-- a row that changes nothing there changes nothing here.
 -- Assumes nothing.
 use mathlib.Core.Path.{_≡_}
 use mathlib.Core.Bool.{Bool, true, false, _&&_}

@@ -77,3 +77,7 @@ read got room = record { got = got; room = room }
 pub three-reads : (lengthOf 0 (read 3 3 ∷ read 4 4 ∷ read 2 4 ∷ read 4 4 ∷ []) ≡ 9) × (lengthOf 0 (read 3 3 ∷ read 0 4 ∷ []) ≡ 3)
 unfolding lengthOf isLast
 three-reads = (refl, refl)
+
+-- the same by the law
+three-read : lengthOf 0 (read 3 3 ∷ read 4 4 ∷ read 2 4 ∷ read 4 4 ∷ []) ≡ 9
+three-read = all-read (read 3 3 ∷ read 4 4 ∷ []) (read 4 4 ∷ []) (read 2 4) 0 (refl, refl, tt) (omega arith) (omega arith)

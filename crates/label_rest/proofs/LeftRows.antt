@@ -1,6 +1,6 @@
--- The end of the sheet. A branch uses a declared label when its word is the label's, or when it is a goto that is pending at the end with that label declared;
--- either way the label has the branch's name, so that one entry of the table of canonical numbers is concerned. Faults have room since each pending
--- goto keeps some.
+-- The end of the sheet. A branch uses a declared label when its word is the label's, or when it is a goto that is pending at the end with that label
+-- declared; either way the label has the branch's name, so that one entry of the table of canonical numbers is concerned. Faults have room since each
+-- pending goto keeps some.
 -- Assumes nothing.
 use mathlib.Core.Path.{_≡_, refl, sym, _∙_, ap}
 use mathlib.Core.Bool.{Bool, true, false, _&&_, not}

@@ -1,7 +1,6 @@
--- The canonical numbers of the labels that are not used, sorted by bytes, and the ranks by which the sheet has the 9s. A number and its label have
--- the same bytes,
--- so the label declared for the number is the one declared at its rank; each rank with a 9 is the rank of a number of the list, and the ranks of the list
--- rise, since the list is sorted and holds each number once.
+-- The canonical numbers of the labels that are not used, sorted by bytes, and the ranks by which the sheet has the 9s. A number and its label have the
+-- same bytes, so the label declared for the number is the one declared at its rank; each rank with a 9 is the rank of a number of the list, and the ranks
+-- of the list rise, since the list is sorted and holds each number once.
 -- Assumes nothing.
 use mathlib.Core.Path.{_≡_, refl, sym, _∙_, ap}
 use mathlib.Core.Bool.{true, false}

@@ -1,6 +1,5 @@
--- The numbers below n that pass a test, the highest first: the links of a `highest` scan lead through them, what each gives is given in order by
--- turning them around,
--- and a store at each changes those words alone.
+-- The numbers below n that pass a test, the highest first: the links of a `highest` scan lead through them, what each gives is given in order by turning
+-- them around, and a store at each changes those words alone.
 -- Assumes nothing.
 use mathlib.Core.Path.{_≡_, refl, _∙_}
 use mathlib.Core.Bool.{Bool, true, false, _&&_}

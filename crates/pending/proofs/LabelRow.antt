@@ -1,6 +1,5 @@
--- A Labeled row x, not `_`, of the walk: of the gotos before it, those that it resolves are the pending ones of its canonical number that stand after
--- its list's row.
--- So those before that row, and those of other numbers, stay as they are.
+-- A Labeled row x, not `_`, of the walk: of the gotos before it, those that it resolves are the pending ones of its canonical number that stand after its
+-- list's row. So those before that row, and those of other numbers, stay as they are.
 -- Assumes nothing.
 use mathlib.Core.Path.{_≡_, refl, sym, _∙_, ap}
 use mathlib.Core.Bool.{Bool, true, false, _&&_}

@@ -1,6 +1,5 @@
--- The state of the walk after a Labeled row, not `_`: its own binding or its two reports, then the gotos that it resolves, each bound to it and
--- reported where it jumps
--- over a declaration, then the head of its number. The room for the reports is that of all rows up to it.
+-- The state of the walk after a Labeled row, not `_`: its own binding or its two reports, then the gotos that it resolves, each bound to it and reported
+-- where it jumps over a declaration, then the head of its number. The room for the reports is that of all rows up to it.
 -- Assumes nothing.
 use mathlib.Core.Path.{_≡_, sym, _∙_, ap}
 use mathlib.Core.Bool.{Bool, true}

@@ -2,15 +2,20 @@
 -- seen here.
 -- Assumes nothing.
 use mathlib.Core.Path.{_≡_, refl}
+use mathlib.Core.Bool.{Bool, true, _&&_}
 use mathlib.Core.List.{List, [], _∷_, _++_}
-use Prim.Native.Nat.{ℕ}
+use Prim.Native.Nat.{ℕ, zero, suc, _<_}
 use native.Mathlib.Omega.{arith}
+use lib.Dec.{ltb}
+use lib.ListN.{getD}
+use borrow.Author.Tests.{ltb-true}
+use Rattle.rules.proofs.Test.{and-true}
 use Rattle.rules.proofs.Computed.{computed}
 use Rattle.bodyfile.specs.File.{words, badFile}
 use Rattle.report_lines.specs.Text.{decimal, sheetText, bindsText}
 use Rattle.report.specs.Text.{bodyText, marksText}
 use Rattle.report.specs.Limits.{badStart, countRefusal, startText}
-use Rattle.report.proofs.Files.{of-whole}
+use Rattle.report.proofs.Files.{of-whole, uncounted-refused}
 
 -- words below 256 as bytes
 abbrev small : List ℕ → List ℕ
@@ -72,6 +77,20 @@ starts = (refl, refl, refl, refl, refl)
 -- and of a whole file that is what is printed for it
 pub read-whole : startText file 130 ≡ marksText file
 read-whole = of-whole file 52012 (omega arith)
+
+-- an input of 2^37 bytes and more that begins with the example's counts
+abbrev below-256 : List ℕ → Bool
+below-256 [] = true
+below-256 (n ∷ ns) = ltb n 256 && below-256 ns
+
+each-below : (l : List ℕ) → below-256 l ≡ true → (i : ℕ) → getD l i 0 < 256
+each-below [] t i = omega arith
+each-below (n ∷ ns) t zero = ltb-true n 256 (and-true (ltb n 256) (below-256 ns) t .0)
+each-below (n ∷ ns) t (suc i) = each-below ns (and-true (ltb n 256) (below-256 ns) t .1) i
+
+pub uncounted : startText counts 137438953472 ≡ refused 48
+unfolding computed decimal
+uncounted = uncounted-refused counts (each-below counts refl) 137438953472 (omega arith)
 
 -- numbers of one digit and of more
 pub numbers : (decimal 0 ≡ 48 ∷ []) × (decimal 9 ≡ 57 ∷ []) × (decimal 10 ≡ 49 ∷ 48 ∷ [])

@@ -1,7 +1,6 @@
--- The output from what was read of a file, by the code's tests; and that it is what `marks` prints for the file. The first bytes decide: their header
--- is the whole
--- file's, so that the counts and the length it says are; and where the counts are within their limits and the length is the one it says, they are the
--- whole file.
+-- The output from what was read of a file, by the code's tests; and that it is what `marks` prints for the file. The first bytes decide: their header is
+-- the whole file's, so that the counts and the length it says are; and where the counts are within their limits and the length is the one it says, they
+-- are the whole file.
 -- Assumes nothing.
 use mathlib.Core.Path.{_≡_, refl, sym, _∙_, ap}
 use mathlib.Core.Bool.{Bool, true, false, _||_, not}

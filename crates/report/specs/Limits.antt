@@ -30,9 +30,8 @@ pub record Within (f : List ℕ) : Type 0 where
 -- ---- the output, from what was read of a file: its first bytes, and its length
 
 -- Refusal 0 where the header is missing or says another length; then the refusals of the counts, which need no more than the header; then 0 where the
--- first bytes
--- aren't the whole file; else the output for the body. Of the first 52,012 bytes of a file and its length this is what `marks` prints for the file
--- (`of-whole`).
+-- first bytes aren't the whole file; else the output for the body. Of the first 52,012 bytes of a file and its length this is what `marks` prints for the
+-- file (`of-whole`).
 unfoldable pub startText : List ℕ → ℕ → List ℕ
 startText start total = elim (badStart start total) [
   | true ↦ refusedText 0 0

@@ -151,8 +151,8 @@ module _ (w p b : List ℕ) (body : Body w p b) (all : AllLawful w p b) where
 
   -- ---- 9
   module _ (g d : ℕ) (row : g < rowCount w) (l : Label w p b d) (s : sameNames w p b d g ≡ true) where
-    goto-binding : class w g ≡ goto → binding w p b g ≡ suc d
-    goto-binding e =
+    goto-word : class w g ≡ goto → binding w p b g ≡ suc d
+    goto-word e =
         let (k, f) = goto-bound g row e in
         let y = goto-label w p b g k f in
         let same : k ≡ d = one-label g d k l s (y .0) (y .1) in
@@ -167,7 +167,7 @@ module _ (w p b : List ℕ) (body : Body w p b) (all : AllLawful w p b) where
     lawful-binding : 0 < name w g → Lawful w p b g → binding w p b g ≡ suc d
     lawful-binding z (lawful-break e v) = break-binding (rw e) z v
     lawful-binding z (lawful-continue e v) = break-binding (rw e) z v
-    lawful-binding z (lawful-goto e v) = goto-binding e
+    lawful-binding z (lawful-goto e v) = goto-word e
 
   label-used : (d : ℕ) → Label w p b d → used w p b d ≡ true
   label-used d l =

@@ -1,6 +1,5 @@
--- The handbook's law applied to bodies, so that neither half holds of nothing: a loop with a labelled break out of a switch, a goto forward and one
--- back, fallthrough, select.
--- What it says of each is written out here, without the names of specs/Law.antt for it: a weaker statement there doesn't give it.
+-- The handbook's law applied to bodies, so that neither half holds of nothing: a loop with a labelled break out of a switch, a goto forward and one back,
+-- fallthrough, select. What it says of each is written out here, without the names of specs/Law.antt for it: a weaker statement there doesn't give it.
 -- Assumes nothing.
 use mathlib.Core.Path.{_≡_, refl}
 use mathlib.Core.List.{List, [], _∷_, _++_}
@@ -20,8 +19,8 @@ abbrev Lawful-and-safe : List ℕ → Type 0
 Lawful-and-safe w = AllLawful w pairs bytes
     × ((l k : List State) → Route w pairs bytes (l ++ brace ∷ k) → ⊥)
     × ((l k : List State) (r : ℕ) → Route w pairs bytes (l ++ at r ∷ k) → 0 < choices w pairs bytes (at r))
-    × ((l k : List State) (r c : ℕ) → Route w pairs bytes (l ++ at r ∷ k) → c < choices w pairs bytes (at r) → (t : State)
-    × (step w pairs bytes (at r) c ≡ some t))
+    × ((l k : List State) (r c : ℕ) → Route w pairs bytes (l ++ at r ∷ k) → c < choices w pairs bytes (at r)
+    → (t : State) × (step w pairs bytes (at r) c ≡ some t))
     × ((l : List State) (s : State) → Route w pairs bytes (l ++ s ∷ []) → ((t : State) → Route w pairs bytes (l ++ s ∷ t ∷ []) → ⊥) → s ≡ stopped)
 
 lawful-and-safe : (w : List ℕ) → Good w pairs bytes → Lawful-and-safe w

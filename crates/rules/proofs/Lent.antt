@@ -1,6 +1,5 @@
 -- The lent sheet and bindings: when they are too short (refusal 7), and what writing leaves in them. Only the lengths decide; new words stand at the
--- start, and every
--- word past them is the one that was lent. Then both on small buffers, each side of the limit.
+-- start, and every word past them is the one that was lent. Then both on small buffers, each side of the limit.
 -- Assumes nothing.
 use mathlib.Core.Path.{_≡_, refl, sym, ap, _∙_}
 use mathlib.Core.Bool.{true, false}

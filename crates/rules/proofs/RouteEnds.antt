@@ -1,6 +1,5 @@
--- What the second half of the handbook's law says of the runner: it never comes to the closing brace, always has a next state at a row, and ends
--- stopped if it ends.
--- A state of a route is safe, wherever on the route it stands; and a route that ends where a choice is open goes on by it.
+-- What the second half of the handbook's law says of the runner: it never comes to the closing brace, always has a next state at a row, and ends stopped
+-- if it ends. A state of a route is safe, wherever on the route it stands; and a route that ends where a choice is open goes on by it.
 -- Assumes nothing.
 use mathlib.Core.Path.{_≡_, refl}
 use mathlib.Core.Logic.{inl, inr}

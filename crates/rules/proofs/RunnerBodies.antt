@@ -41,6 +41,7 @@ use Rattle.rules.specs.Bodies.{
 }
 use Rattle.rules.proofs.Computed.{computed}
 use Rattle.rules.proofs.Test.{clash, and-true}
+use Rattle.rules.proofs.Steps.{OneWay, goto-binding}
 
 -- the four answers about a body: refusal, sheet, verdict, placing
 abbrev Answers : List ℕ → Option (ℕ × ℕ) → List Fault → Bool → Option ℕ → Type 0
@@ -189,3 +190,8 @@ placing-needed = ((refl, refl, refl, refl), ((refl, by-choices body12 (at 0) (0 
 pub well-formed-needed : Answers forAlone (some (5, 0)) [] true none × AtBrace forAlone (at 0 ∷ at 1 ∷ [])
 unfolding computed
 well-formed-needed = ((refl, refl, refl, refl), ((refl, by-choices forAlone (at 0) (0 ∷ 0 ∷ []) refl), brace-unsafe forAlone))
+
+-- ---- where a goto goes: to the row that its binding word names, and nowhere where the word is 0
+goto-bound : OneWay gotoAndBack pairs bytes 1 (some (at 4)) × OneWay gotoNowhere pairs bytes 1 none
+unfolding computed
+goto-bound = (goto-binding gotoAndBack pairs bytes 1 refl, goto-binding gotoNowhere pairs bytes 1 refl)

@@ -1,6 +1,5 @@
--- What a row without a fault of shape has below it: each child fits, and there are as many as its class asks for.
--- A child's class is its own words' but for the Block of a switch or Select. That is the one right after its switch: any other row that follows such
--- a row would leave it without its Block.
+-- What a row without a fault of shape has below it: each child fits, and there are as many as its class asks for. A child's class is its own words' but
+-- for the Block of a switch or Select. That is the one right after its switch: any other row that follows such a row would leave it without its Block.
 -- Assumes nothing.
 use mathlib.Core.Path.{_≡_, refl, sym, _∙_}
 use mathlib.Core.Bool.{Bool, true, false, _&&_, _||_, not}

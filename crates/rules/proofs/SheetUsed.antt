@@ -1,24 +1,22 @@
--- What the first half of the handbook's law says, written out: with an empty sheet each label other than `_` is declared once and named by a branch,
--- and each labelled
--- branch has its lawful destination; and where all of that holds the sheet is empty. No statement here uses a name of specs/Law.antt for its own
--- meaning, so a weaker law
--- doesn't give them. Then the law on two bodies: body 1 has an empty sheet, so it is lawful; body 6 has a 3 on its sheet, so it is not.
+-- What the first half of the handbook's law says, written out: with an empty sheet each label other than `_` is declared once and named by a branch, and
+-- each labelled branch has its lawful destination; and where all of that holds the sheet is empty. No statement here uses a name of specs/Law.antt for its
+-- own meaning, so a weaker law doesn't give them. Then each of them on a body, both ways for body 1; body 6 has a 3 on its sheet, so it is not lawful.
 -- Assumes nothing.
-use mathlib.Core.Path.{_≡_, refl}
+use mathlib.Core.Path.{_≡_, refl, sym, _∙_}
 use mathlib.Core.Bool.{true, false}
 use mathlib.Core.List.{List, []}
 use mathlib.Core.Option.{some}
-use Prim.Native.Nat.{ℕ, suc, _<_}
+use Prim.Native.Nat.{ℕ, zero, suc, _<_}
 use native.Mathlib.Omega.{arith}
 use native.Mathlib.Decide.{decLt}
 use Rattle.rules.specs.Rows.{rowCount, name}
-use Rattle.rules.specs.Class.{labeled, break, continue, goto, fallthrough, declaration, isBranch, isBreakable, isLoop, class}
+use Rattle.rules.specs.Class.{Class, block, labeled, for, break, continue, goto, fallthrough, declaration, isBranch, isBreakable, isLoop, class}
 use Rattle.rules.specs.Names.{isBlank}
 use Rattle.rules.specs.Refusals.{WellFormed}
 use Rattle.rules.specs.Scope.{listOf, inListOf}
 use Rattle.rules.specs.Labels.{sameNames, target, sheet}
 use Rattle.rules.specs.Law.{Label, Lawful, lawful-break, lawful-continue, lawful-goto, AllLawful}
-use Rattle.rules.specs.Bodies.{pairs, bytes, body1, body6}
+use Rattle.rules.specs.Bodies.{pairs, bytes, body1, body6, gotoAndBack, fallIntoDefault, continueOuter}
 use Rattle.rules.proofs.Computed.{computed}
 use Rattle.rules.proofs.Test.{clash}
 use Rattle.rules.proofs.Facts as facts
@@ -109,10 +107,74 @@ module _ (w p b : List ℕ) where
 
 -- ---- on bodies
 
--- L: for { break L }
+-- L: for { break L }: lawful; the label stands once and the break names it; the break leaves the For
 lawful-body1 : AllLawful body1 pairs bytes
 unfolding computed
 lawful-body1 = sheet-law body1 pairs bytes refl .0 refl
+
+label-once : (s : ℕ) → A-label body1 pairs bytes s → sameNames body1 pairs bytes s 1 ≡ true → s ≡ 1
+unfolding computed
+label-once s x e = let h : 1 < 5 = omega arith in empty-once body1 pairs bytes refl refl 1 s (h, refl, refl) x e
+
+label-named : (g : ℕ) × (g < 5) × (isBranch (class body1 g) ≡ true) × (sameNames body1 pairs bytes g 1 ≡ true)
+unfolding computed
+label-named = let h : 1 < 5 = omega arith in empty-named body1 pairs bytes refl refl 1 (h, refl, refl)
+
+break-leaves : (t : ℕ) × (target body1 pairs bytes 4 ≡ some t) × (isBreakable (class body1 (suc t)) ≡ true)
+unfolding computed
+break-leaves = let h : 4 < 5 = omega arith in let n : 0 < 1 = omega arith in empty-breaks body1 pairs bytes refl refl 4 h refl n
+
+-- L: for { for c { continue L } }
+continue-loops : (t : ℕ) × (target continueOuter pairs bytes 6 ≡ some t) × (isLoop (class continueOuter (suc t)) ≡ true)
+unfolding computed
+continue-loops = let h : 6 < 7 = omega arith in let n : 0 < 1 = omega arith in empty-continues continueOuter pairs bytes refl refl 6 h refl n
+
+-- goto L; M: return; L: goto M
+goto-lands : (r : ℕ) × A-label gotoAndBack pairs bytes r × (sameNames gotoAndBack pairs bytes r 1 ≡ true) × (inListOf gotoAndBack r 1 ≡ true)
+    × ((d : ℕ) → 1 < d → d < r → class gotoAndBack d ≡ declaration → listOf gotoAndBack d ≡ listOf gotoAndBack r → ⊥)
+unfolding computed
+goto-lands = let h : 1 < 6 = omega arith in empty-gotos gotoAndBack pairs bytes refl refl 1 h refl
+
+-- switch { case: fallthrough; default: return }
+fallthrough-unlabelled : name fallIntoDefault 4 ≡ 0
+unfolding computed
+fallthrough-unlabelled = let h : 4 < 7 = omega arith in empty-fallthrough fallIntoDefault pairs bytes refl refl 4 h refl
+
+-- and back, of body 1: its one label is row 1, which the break of row 4 names, and the label is on the For
+module _ (P : ℕ → Type 0) (p0 : P 0) (p1 : P 1) (p2 : P 2) (p3 : P 3) (p4 : P 4) where
+  of-five : (r : ℕ) → r < 5 → P r
+  of-five zero h = p0
+  of-five (suc zero) h = p1
+  of-five (suc (suc zero)) h = p2
+  of-five (suc (suc (suc zero))) h = p3
+  of-five (suc (suc (suc (suc zero)))) h = p4
+  of-five (suc (suc (suc (suc (suc r))))) h = absurd (omega arith)
+
+the-label : (r : ℕ) → A-label body1 pairs bytes r → r ≡ 1
+unfolding computed
+the-label r x = of-five (λ r. class body1 r ≡ labeled → r ≡ 1)
+    (λ e. absurd (clash (cc))) (λ e. refl) (λ e. absurd (clash (cc))) (λ e. absurd (clash (cc))) (λ e. absurd (clash (cc))) r (x .0) (x .1)
+
+the-break : Breaks-leave body1 pairs bytes
+unfolding computed
+the-break g h e n = of-five
+    (λ g. class body1 g ≡ break → (t : ℕ) × (target body1 pairs bytes g ≡ some t) × (isBreakable (class body1 (suc t)) ≡ true))
+    (λ e. absurd (clash (cc))) (λ e. absurd (clash (cc))) (λ e. absurd (clash (cc))) (λ e. absurd (clash (cc))) (λ e. (1, refl, refl)) g h e
+
+-- no row is of the class k
+none-is : (k : Class) → (block ≡ k → ⊥) → (labeled ≡ k → ⊥) → (for ≡ k → ⊥) → (break ≡ k → ⊥) → (g : ℕ) → g < 5 → class body1 g ≡ k → ⊥
+unfolding computed
+none-is k b l f r = of-five (λ g. class body1 g ≡ k → ⊥) b l f b r
+
+empty-body1 : sheet body1 pairs bytes ≡ []
+unfolding computed
+empty-body1 = lawful-empty body1 pairs bytes refl
+    (λ r s x y e. the-label s y ∙ sym (the-label r x))
+    (λ r x. let h : 4 < 5 = omega arith in (4, h, refl, rw (the-label r x)))
+    the-break
+    (λ g h e n. absurd (none-is continue (λ x. clash (cc)) (λ x. clash (cc)) (λ x. clash (cc)) (λ x. clash (cc)) g h e))
+    (λ g h e. absurd (none-is goto (λ x. clash (cc)) (λ x. clash (cc)) (λ x. clash (cc)) (λ x. clash (cc)) g h e))
+    (λ g h e. absurd (none-is fallthrough (λ x. clash (cc)) (λ x. clash (cc)) (λ x. clash (cc)) (λ x. clash (cc)) g h e))
 
 -- goto L; x := 1; L: return
 not-lawful : AllLawful body6 pairs bytes → ⊥

@@ -1,6 +1,5 @@
--- Document 01, "Runner", sentence by sentence: where the runner goes from each kind of row and by which choices.
--- Each law opens `choices` and `step` at one class; the laws of going on open `climb`, which passes the rows that are not around s and so comes to
--- the parent of s first.
+-- Document 01, "Runner", sentence by sentence: where the runner goes from each kind of row and by which choices. Each law opens `choices` and `step` at
+-- one class; the laws of going on open `climb`, which passes the rows that are not around s and so comes to the parent of s first.
 -- Assumes nothing.
 use mathlib.Core.Path.{_≡_, refl, ap, _∙_}
 use mathlib.Core.Bool.{Bool, true, false, _&&_, _||_, not}

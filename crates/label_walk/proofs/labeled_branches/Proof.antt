@@ -1,6 +1,5 @@
--- A row with the canonical number 0 is `_`, which is no label: nothing changes. Any other is a label, the latest of its list: `labelled` puts it into
--- the list's context and
--- leaves the latest declaration there, which `label_branches` gets.
+-- A row with the canonical number 0 is `_`, which is no label: nothing changes. Any other is a label, the latest of its list: `labelled` puts it into the
+-- list's context and leaves the latest declaration there, which `label_branches` gets.
 -- Assumes nothing.
 use native.Mathlib.Omega.{arith}
 use borrow.Author.Needs.{needs}
