@@ -63,7 +63,7 @@ module _ (p b : List ℕ) (slots s n : ℕ) where
       })
       (λ f. absurd (omega (arith, e ∙ ap word f)))
 
-  module _ (next-in-slot keys firsts : List ℕ) (lk : Linked p b slots n next-in-slot keys firsts) (m : ℕ) (c : Chain p b slots s n m) where
+  module _ (next-in-slot keys numbers : List ℕ) (lk : Linked p b slots n next-in-slot keys numbers) (m : ℕ) (c : Chain p b slots s n m) where
     -- ---- at a name
     module _ (z : 0 < m) where
       at : Stop p b slots s m (c .k)
@@ -81,10 +81,10 @@ module _ (p b : List ℕ) (slots s n : ℕ) where
       )
 
       -- the name has the bytes: its canonical number is the one sought
-      pub chain-found : (t : Bool) → t ≡ sameName p b m (n + 1) → t ≡ true → getD firsts m 0 ≡ first p b (suc n)
+      pub chain-found : (t : Bool) → t ≡ sameName p b m (n + 1) → t ≡ true → getD numbers m 0 ≡ first p b (suc n)
       chain-found t d u =
           let e = same-bytes p b m (suc n) (rw add-one at (sym d ∙ u)) in
-          ap (λ (x : ℕ). getD firsts x 0) (at .name) ∙ lk .first-at (at .j) at-below ∙ ap (first p b) (sym (at .name)) ∙ same-first p b m (suc n) e
+          ap (λ (x : ℕ). getD numbers x 0) (at .name) ∙ lk .first-at (at .j) at-below ∙ ap (first p b) (sym (at .name)) ∙ same-first p b m (suc n) e
 
       -- the name has other bytes: on to the one before it
       module _ (key : ℕ) (hashed : key ≡ hashAt p b n) (own : s ≡ slotOf slots key) where

@@ -33,7 +33,7 @@ pub record Numbering (p b s y j g h x k f : List ℕ) (n : ℕ) : Type 0 where
   pub heads-length : length h ≡ length s
   pub next-in-slot-length : length x ≡ length y
   pub keys-length : length k ≡ length j
-  pub firsts-length : length f ≡ length g
+  pub numbers-length : length f ≡ length g
   pub room : Room p h x k f
   pub heads : Heads p b n h
   pub linked : Linked p b (length h) n x k f
@@ -58,7 +58,7 @@ numbering-start p b s y j g t r z = record {
   heads-length = refl;
   next-in-slot-length = refl;
   keys-length = refl;
-  firsts-length = refl;
+  numbers-length = refl;
   room = r;
   heads = λ i l. z i;
   linked =
@@ -78,7 +78,7 @@ module _ (p b s y j g h x k f : List ℕ) (n : ℕ) (r : Numbering p b s y j g h
   numbering-end l =
       let e : n ≡ pairCount p = omega (arith, r .linked .upto) in
       record {
-        firsts = λ i z m. let q : suc (i - 1) ≡ i = omega arith in rw (← q) (r .linked .first-at (i - 1) (omega arith));
+        numbers = λ i z m. let q : suc (i - 1) ≡ i = omega arith in rw (← q) (r .linked .first-at (i - 1) (omega arith));
         none = r .none;
         kept = λ i m. r .kept i (omega arith);
       }
@@ -107,7 +107,7 @@ module _ (p b s y j g h x k f : List ℕ) (n : ℕ) (r : Numbering p b s y j g h
           (omega (arith, r .room .next-in-slot-room)) (r .linked .next-at)
           (r .heads at at< ∙ ap (λ (z : ℕ). word (highest (inSlot p b (length h) z) n)) (sym own-slot));
       key-at = stored (λ i v. v ≡ hashAt p b i) k n key (omega (arith, r .room .keys-room)) (r .linked .key-at) hashed;
-      first-at = stored (λ i v. v ≡ first p b (suc i)) f n number (omega (arith, r .room .firsts-room)) (r .linked .first-at) numbered;
+      first-at = stored (λ i v. v ≡ first p b (suc i)) f n number (omega (arith, r .room .numbers-room)) (r .linked .first-at) numbered;
     }
 
     next : Numbering p b s y j g (set h at (suc n)) (set x (suc n) (getD h at 0)) (set k (suc n) key) (set f (suc n) number) (suc n)
@@ -115,12 +115,12 @@ module _ (p b s y j g h x k f : List ℕ) (n : ℕ) (r : Numbering p b s y j g h
       heads-length = length-set h at (suc n) ∙ r .heads-length;
       next-in-slot-length = length-set x (suc n) (getD h at 0) ∙ r .next-in-slot-length;
       keys-length = length-set k (suc n) key ∙ r .keys-length;
-      firsts-length = length-set f (suc n) number ∙ r .firsts-length;
+      numbers-length = length-set f (suc n) number ∙ r .numbers-length;
       room = record {
         slots = omega (arith, length-set h at (suc n), r .room .slots);
         next-in-slot-room = omega (arith, length-set x (suc n) (getD h at 0), r .room .next-in-slot-room);
         keys-room = omega (arith, length-set k (suc n) key, r .room .keys-room);
-        firsts-room = omega (arith, length-set f (suc n) number, r .room .firsts-room);
+        numbers-room = omega (arith, length-set f (suc n) number, r .room .numbers-room);
       };
       heads = heads-next;
       linked = rw (length-set h at (suc n)) linked-next;

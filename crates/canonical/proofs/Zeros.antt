@@ -14,16 +14,16 @@ zeros-at zero i = refl
 zeros-at (suc n) zero = refl
 zeros-at (suc n) (suc i) = zeros-at n i
 
-pub zeros : (p b firsts : List ℕ) (slots room : ℕ) → namesOk p b ≡ true → 32 ≤ slots → pairCount p < room → pairCount p < length firsts
-    → ((namesOk p b ≡ true) × Room p (replicate slots 0) (replicate room 0) (replicate room 0) firsts) × ((s : ℕ) → getD {A = ℕ} (replicate slots 0) s 0 ≡ 0)
-zeros p b firsts slots room t h l m = (
+pub zeros : (p b numbers : List ℕ) (slots room : ℕ) → namesOk p b ≡ true → 32 ≤ slots → pairCount p < room → pairCount p < length numbers
+    → ((namesOk p b ≡ true) × Room p (replicate slots 0) (replicate room 0) (replicate room 0) numbers) × ((s : ℕ) → getD {A = ℕ} (replicate slots 0) s 0 ≡ 0)
+zeros p b numbers slots room t h l m = (
   (
     t,
     record {
       slots = omega (arith, length-replicate {A = ℕ} slots 0);
       next-in-slot-room = omega (arith, length-replicate {A = ℕ} room 0);
       keys-room = omega (arith, length-replicate {A = ℕ} room 0);
-      firsts-room = m;
+      numbers-room = m;
     },
   ),
   zeros-at slots,

@@ -13,6 +13,6 @@ first p b n = word (lowest (λ i. sameName p b (suc i) n) (pairCount p))
 
 -- t is s with the canonical number of each name of the body at the name's own number
 pub record Numbered (p b s t : List ℕ) : Type 0 where
-  pub firsts : (n : ℕ) → 0 < n → n ≤ pairCount p → getD t n 0 ≡ first p b n
+  pub numbers : (n : ℕ) → 0 < n → n ≤ pairCount p → getD t n 0 ≡ first p b n
   pub none : getD t 0 0 ≡ getD s 0 0
   pub kept : (n : ℕ) → pairCount p < n → getD t n 0 ≡ getD s n 0

@@ -22,20 +22,20 @@ abbrev pub inSlot : List ℕ → List ℕ → ℕ → ℕ → ℕ → Bool
 inSlot p b slots s i = eqb (slotOf slots (hashAt p b i)) s
 
 -- the tables have room
-pub record Room (p heads next-in-slot keys firsts : List ℕ) : Type 0 where
+pub record Room (p heads next-in-slot keys numbers : List ℕ) : Type 0 where
   pub slots : 32 ≤ length heads
   pub next-in-slot-room : pairCount p < length next-in-slot
   pub keys-room : pairCount p < length keys
-  pub firsts-room : pairCount p < length firsts
+  pub numbers-room : pairCount p < length numbers
 
 -- the slots lead to the latest of the first n names
 abbrev pub Heads : List ℕ → List ℕ → ℕ → List ℕ → Type 0
 Heads p b n heads = (s : ℕ) → s < length heads → getD heads s 0 ≡ word (highest (inSlot p b (length heads) s) n)
 
 -- each of the first n names leads to the one before it in its slot, and has its hash and its canonical number
-pub record Linked (p b : List ℕ) (slots n : ℕ) (next-in-slot keys firsts : List ℕ) : Type 0 where
+pub record Linked (p b : List ℕ) (slots n : ℕ) (next-in-slot keys numbers : List ℕ) : Type 0 where
   pub names-ok : namesOk p b ≡ true
   pub upto : n ≤ pairCount p
   pub next-at : (i : ℕ) → i < n → getD next-in-slot (suc i) 0 ≡ word (highest (inSlot p b slots (slotOf slots (hashAt p b i))) i)
   pub key-at : (i : ℕ) → i < n → getD keys (suc i) 0 ≡ hashAt p b i
-  pub first-at : (i : ℕ) → i < n → getD firsts (suc i) 0 ≡ first p b (suc i)
+  pub first-at : (i : ℕ) → i < n → getD numbers (suc i) 0 ≡ first p b (suc i)

@@ -58,14 +58,14 @@ fn first_same(
     heads: &[u16],
     next_in_slot: &[u16],
     keys: &[u32],
-    firsts: &[u32],
+    numbers: &[u32],
     n: usize,
     key: u32,
     slot: usize,
 ) -> usize
-    requires { ⌜ Room (now pairs) (now heads) (now «next_in_slot») (now keys) (now firsts) × (n < pairCount (now pairs)) ⌝ }
+    requires { ⌜ Room (now pairs) (now heads) (now «next_in_slot») (now keys) (now numbers) × (n < pairCount (now pairs)) ⌝ }
     requires { ⌜ Heads (now pairs) (now bytes) n (now heads)
-        × Linked (now pairs) (now bytes) (length (now heads)) n (now «next_in_slot») (now keys) (now firsts) ⌝ }
+        × Linked (now pairs) (now bytes) (length (now heads)) n (now «next_in_slot») (now keys) (now numbers) ⌝ }
     requires { ⌜ (key ≡ hashAt (now pairs) (now bytes) n) × (slot ≡ slotOf (length (now heads)) key) × (slot < length (now heads)) ⌝ }
     ensures { λ r. ⌜ r ≡ first (now (pairs .entry)) (now (bytes .entry)) (suc n) ⌝ }
 {
@@ -73,7 +73,7 @@ fn first_same(
     while 0 < m {
         if keys[m] == key {
             if names::same_name(pairs, bytes, NameNumber(m), NameNumber(n + 1)) {
-                return wide_word(firsts[m]);
+                return wide_word(numbers[m]);
             }
         }
         m = wide_number(next_in_slot[m]);
@@ -89,11 +89,11 @@ fn number_names(
     heads: &mut [u16],
     next_in_slot: &mut [u16],
     keys: &mut [u32],
-    firsts: &mut [u32],
+    numbers: &mut [u32],
 )
-    requires { ⌜ (namesOk (now pairs) (now bytes) ≡ true) × Room (now pairs) (now heads) (now «next_in_slot») (now keys) (now firsts) ⌝ }
+    requires { ⌜ (namesOk (now pairs) (now bytes) ≡ true) × Room (now pairs) (now heads) (now «next_in_slot») (now keys) (now numbers) ⌝ }
     requires { ⌜ ((s : ℕ) → getD (now heads) s 0 ≡ 0) ⌝ }
-    ensures { λ _. ⌜ Numbered (now (pairs .entry)) (now (bytes .entry)) (now (firsts .entry)) (now (firsts .exit)) ⌝ }
+    ensures { λ _. ⌜ Numbered (now (pairs .entry)) (now (bytes .entry)) (now (numbers .entry)) (now (numbers .exit)) ⌝ }
 {
     let count = pairs.len() / 2;
     let mut n = 0;
@@ -101,8 +101,8 @@ fn number_names(
         let name = n + 1;
         let key = hash(name_part(pairs, bytes, NameNumber(name)));
         let at = slot(wide_word(key), heads.len());
-        let number = first_same(pairs, bytes, heads, next_in_slot, keys, firsts, n, key, at);
-        firsts[name] = number as u32;
+        let number = first_same(pairs, bytes, heads, next_in_slot, keys, numbers, n, key, at);
+        numbers[name] = number as u32;
         keys[name] = key;
         next_in_slot[name] = heads[at];
         heads[at] = name as u16;
@@ -111,9 +111,9 @@ fn number_names(
 }
 
 // The canonical numbers of up to 500 names.
-fn many_numbers(pairs: &[u32], bytes: &[u8], firsts: &mut [u32])
-    requires { ⌜ (namesOk (now pairs) (now bytes) ≡ true) × (pairCount (now pairs) < length (now firsts)) ⌝ }
-    ensures { λ _. ⌜ Numbered (now (pairs .entry)) (now (bytes .entry)) (now (firsts .entry)) (now (firsts .exit)) ⌝ }
+fn many_numbers(pairs: &[u32], bytes: &[u8], numbers: &mut [u32])
+    requires { ⌜ (namesOk (now pairs) (now bytes) ≡ true) × (pairCount (now pairs) < length (now numbers)) ⌝ }
+    ensures { λ _. ⌜ Numbered (now (pairs .entry)) (now (bytes .entry)) (now (numbers .entry)) (now (numbers .exit)) ⌝ }
 {
     let mut heads = [0u16; 512];
     let mut next_in_slot = [0u16; 501];
@@ -124,14 +124,14 @@ fn many_numbers(pairs: &[u32], bytes: &[u8], firsts: &mut [u32])
         &mut heads,
         &mut next_in_slot,
         &mut keys,
-        firsts,
+        numbers,
     );
 }
 
 // The same of up to 31: most bodies have few names, and tables cost time to make.
-fn few_numbers(pairs: &[u32], bytes: &[u8], firsts: &mut [u32])
-    requires { ⌜ (namesOk (now pairs) (now bytes) ≡ true) × (pairCount (now pairs) ≤ 31) × (pairCount (now pairs) < length (now firsts)) ⌝ }
-    ensures { λ _. ⌜ Numbered (now (pairs .entry)) (now (bytes .entry)) (now (firsts .entry)) (now (firsts .exit)) ⌝ }
+fn few_numbers(pairs: &[u32], bytes: &[u8], numbers: &mut [u32])
+    requires { ⌜ (namesOk (now pairs) (now bytes) ≡ true) × (pairCount (now pairs) ≤ 31) × (pairCount (now pairs) < length (now numbers)) ⌝ }
+    ensures { λ _. ⌜ Numbered (now (pairs .entry)) (now (bytes .entry)) (now (numbers .entry)) (now (numbers .exit)) ⌝ }
 {
     let mut heads = [0u16; 32];
     let mut next_in_slot = [0u16; 32];
@@ -142,18 +142,18 @@ fn few_numbers(pairs: &[u32], bytes: &[u8], firsts: &mut [u32])
         &mut heads,
         &mut next_in_slot,
         &mut keys,
-        firsts,
+        numbers,
     );
 }
 
 // The canonical number of each name of the body at the name's number; the other words stay.
-pub fn canonical_numbers(pairs: &[u32], bytes: &[u8], firsts: &mut [u32])
-    requires { ⌜ (namesOk (now pairs) (now bytes) ≡ true) × (pairCount (now pairs) < length (now firsts)) ⌝ }
-    ensures { λ _. ⌜ Numbered (now (pairs .entry)) (now (bytes .entry)) (now (firsts .entry)) (now (firsts .exit)) ⌝ }
+pub fn canonical_numbers(pairs: &[u32], bytes: &[u8], numbers: &mut [u32])
+    requires { ⌜ (namesOk (now pairs) (now bytes) ≡ true) × (pairCount (now pairs) < length (now numbers)) ⌝ }
+    ensures { λ _. ⌜ Numbered (now (pairs .entry)) (now (bytes .entry)) (now (numbers .entry)) (now (numbers .exit)) ⌝ }
 {
     if pairs.len() / 2 <= 31 {
-        few_numbers(pairs, bytes, firsts);
+        few_numbers(pairs, bytes, numbers);
     } else {
-        many_numbers(pairs, bytes, firsts);
+        many_numbers(pairs, bytes, numbers);
     }
 }

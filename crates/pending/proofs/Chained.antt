@@ -13,7 +13,7 @@ use Rattle.rules.specs.Rows.{position, name}
 use Rattle.rules.specs.Labels.{Fault}
 use Rattle.rules.specs.Calls.{faultWords}
 use Rattle.rules.proofs.Test.{case-of}
-use Rattle.pending.specs.Chain.{Chain, ended, linked, countOver, threes, stored, Counting}
+use Rattle.pending.specs.Chain.{Chain, ended, linked, countOver, overFaults, stored, Counting}
 use Rattle.walk_state.proofs.WalkFaults.{words-append, words-length}
 
 -- ---- one row of a chain
@@ -102,33 +102,33 @@ module _ {links : List ℕ} {head list latest : ℕ} {all : List ℕ} {last : �
   count-ends k h = omega (arith, k .count, ap (countOver latest) (stop (k .chain) h .0))
 
 -- ---- the reports
-pub threes-length : (w : List ℕ) (latest : ℕ) (gs : List ℕ) → length (threes w latest gs) ≡ countOver latest gs
-threes-length w latest [] = refl
-threes-length w latest (g ∷ gs) = case-of (ltb (suc g) latest)
-    (λ t. rw (t, countOver, threes, length-append) (omega (arith, threes-length w latest gs)))
-    (λ t. rw (t, countOver, threes, append-nil) (threes-length w latest gs))
+pub over-faults-length : (w : List ℕ) (latest : ℕ) (gs : List ℕ) → length (overFaults w latest gs) ≡ countOver latest gs
+over-faults-length w latest [] = refl
+over-faults-length w latest (g ∷ gs) = case-of (ltb (suc g) latest)
+    (λ t. rw (t, countOver, overFaults, length-append) (omega (arith, over-faults-length w latest gs)))
+    (λ t. rw (t, countOver, overFaults, append-nil) (over-faults-length w latest gs))
 
-pub threes-no : (w : List ℕ) (latest g : ℕ) (gs : List ℕ) → latest ≤ suc g → threes w latest (g ∷ gs) ≡ threes w latest gs
-threes-no w latest g gs h = rw (le-ltb (suc g) latest h, threes, append-nil)
+pub over-faults-no : (w : List ℕ) (latest g : ℕ) (gs : List ℕ) → latest ≤ suc g → overFaults w latest (g ∷ gs) ≡ overFaults w latest gs
+over-faults-no w latest g gs h = rw (le-ltb (suc g) latest h, overFaults, append-nil)
 
 -- the words of a report
-abbrev pub wordsOfThree : List ℕ → ℕ → ℕ → List ℕ
-wordsOfThree w latest g = 3 ∷ position w g ∷ name w g ∷ position w (latest - 1) ∷ []
+abbrev pub wordsOfOver : List ℕ → ℕ → ℕ → List ℕ
+wordsOfOver w latest g = 3 ∷ position w g ∷ name w g ∷ position w (latest - 1) ∷ []
 
-pub threes-yes : (w : List ℕ) (latest g : ℕ) (gs : List ℕ) → suc g < latest
-    → faultWords (threes w latest (g ∷ gs)) ≡ faultWords (threes w latest gs) ++ wordsOfThree w latest g
-threes-yes w latest g gs h = rw (lt-ltb (suc g) latest h, threes)
-    (words-append (threes w latest gs) (record { code = 3; position = position w g; name = name w g; other = position w (latest - 1) } ∷ []))
+pub over-faults-yes : (w : List ℕ) (latest g : ℕ) (gs : List ℕ) → suc g < latest
+    → faultWords (overFaults w latest (g ∷ gs)) ≡ faultWords (overFaults w latest gs) ++ wordsOfOver w latest g
+over-faults-yes w latest g gs h = rw (lt-ltb (suc g) latest h, overFaults)
+    (words-append (overFaults w latest gs) (record { code = 3; position = position w g; name = name w g; other = position w (latest - 1) } ∷ []))
 
 -- the last report first: it stands right before the place `at`, and the others before it
-pub threes-sets : (w s : List ℕ) (latest g : ℕ) (gs : List ℕ) (start at : ℕ) → suc g < latest → start + suc (countOver latest gs) ≡ at
-    → sets s (start * 4) (faultWords (threes w latest (g ∷ gs))) ≡ sets (sets s ((at - 1) * 4) (wordsOfThree w latest g)) (start * 4)
-    (faultWords (threes w latest gs))
-threes-sets w s latest g gs start at h e =
-    let n : start * 4 + length (faultWords (threes w latest gs)) ≡ (at - 1) * 4 = omega (arith, words-length (threes w latest gs), threes-length w latest gs) in
-    rw (threes-yes w latest g gs h)
-    (sets-append (faultWords (threes w latest gs)) (wordsOfThree w latest g) s (start * 4)
-    ∙ ap (λ (i : ℕ). sets (sets s i (wordsOfThree w latest g)) (start * 4) (faultWords (threes w latest gs))) n)
+pub over-faults-sets : (w s : List ℕ) (latest g : ℕ) (gs : List ℕ) (start at : ℕ) → suc g < latest → start + suc (countOver latest gs) ≡ at
+    → sets s (start * 4) (faultWords (overFaults w latest (g ∷ gs))) ≡ sets (sets s ((at - 1) * 4) (wordsOfOver w latest g)) (start * 4)
+    (faultWords (overFaults w latest gs))
+over-faults-sets w s latest g gs start at h e =
+    let n : start * 4 + length (faultWords (overFaults w latest gs)) ≡ (at - 1) * 4 = omega (arith, words-length (overFaults w latest gs), over-faults-length w latest gs) in
+    rw (over-faults-yes w latest g gs h)
+    (sets-append (faultWords (overFaults w latest gs)) (wordsOfOver w latest g) s (start * 4)
+    ∙ ap (λ (i : ℕ). sets (sets s i (wordsOfOver w latest g)) (start * 4) (faultWords (overFaults w latest gs))) n)
 
 -- ---- in the middle of the label's resolving: what is left of the chain would finish what was begun
 pub record Resolves (w sheet₀ bindings₀ links sheet bindings : List ℕ) (head list latest end v at g : ℕ) (all : List ℕ) (last : ℕ) : Type 0 where
@@ -141,7 +141,7 @@ pub record Resolves (w sheet₀ bindings₀ links sheet bindings : List ℕ) (he
   pub same-bindings : length bindings ≡ length bindings₀
   pub bound : stored bindings rest v ≡ stored bindings₀ all v
   pub reported : (start : ℕ) → start + countOver latest rest ≡ at
-      → sets sheet (start * 4) (faultWords (threes w latest rest)) ≡ sets sheet₀ (start * 4) (faultWords (threes w latest all))
+      → sets sheet (start * 4) (faultWords (overFaults w latest rest)) ≡ sets sheet₀ (start * 4) (faultWords (overFaults w latest all))
 
 module _ {w sheet₀ bindings₀ links : List ℕ} {head list latest end v : ℕ} {all : List ℕ} {last : ℕ} where
   pub resolve-begins : Chain links list head all last → Resolves w sheet₀ bindings₀ links sheet₀ bindings₀ head list latest end v end head all last
@@ -173,7 +173,7 @@ module _ {w sheet₀ bindings₀ links : List ℕ} {head list latest end v : ℕ
     stored-step rest e = rw (← k .bound, e)
 
     pub resolve-yes : {next : ℕ} → list < g → g < latest → 0 < at → next ≡ getD links (g - 1) 0
-        → Resolves w sheet₀ bindings₀ links (sets sheet ((at - 1) * 4) (wordsOfThree w latest (g - 1))) (set bindings (g - 1) v) head list latest end v
+        → Resolves w sheet₀ bindings₀ links (sets sheet ((at - 1) * 4) (wordsOfOver w latest (g - 1))) (set bindings (g - 1) v) head list latest end v
         (at - 1) next all last
     resolve-yes l h z n =
         let s = step (k .chain) l in
@@ -185,12 +185,12 @@ module _ {w sheet₀ bindings₀ links : List ℕ} {head list latest end v : ℕ
           low = omega (arith, s .lower, k .low);
           under = omega (arith, k .under);
           count = omega (arith, k .count);
-          same-sheet = length-sets sheet ((at - 1) * 4) (wordsOfThree w latest (g - 1)) ∙ k .same-sheet;
+          same-sheet = length-sets sheet ((at - 1) * 4) (wordsOfOver w latest (g - 1)) ∙ k .same-sheet;
           same-bindings = length-set bindings (g - 1) v ∙ k .same-bindings;
           bound = stored-step (s .rest) (s .are);
           reported = λ start f.
-              sym (threes-sets w sheet latest (g - 1) (s .rest) start at (omega arith) (omega arith))
-              ∙ ap (λ (gs : List ℕ). sets sheet (start * 4) (faultWords (threes w latest gs))) (sym (s .are))
+              sym (over-faults-sets w sheet latest (g - 1) (s .rest) start at (omega arith) (omega arith))
+              ∙ ap (λ (gs : List ℕ). sets sheet (start * 4) (faultWords (overFaults w latest gs))) (sym (s .are))
               ∙ k .reported start (omega arith);
         })
 
@@ -216,18 +216,18 @@ module _ {w sheet₀ bindings₀ links : List ℕ} {head list latest end v : ℕ
           same-bindings = length-set bindings (g - 1) v ∙ k .same-bindings;
           bound = stored-step (s .rest) (s .are);
           reported = λ start f.
-              ap (λ (fs : List Fault). sets sheet (start * 4) (faultWords fs)) (sym (threes-no w latest (g - 1) (s .rest) (omega arith)))
-              ∙ ap (λ (gs : List ℕ). sets sheet (start * 4) (faultWords (threes w latest gs))) (sym (s .are))
+              ap (λ (fs : List Fault). sets sheet (start * 4) (faultWords fs)) (sym (over-faults-no w latest (g - 1) (s .rest) (omega arith)))
+              ∙ ap (λ (gs : List ℕ). sets sheet (start * 4) (faultWords (overFaults w latest gs))) (sym (s .are))
               ∙ k .reported start (omega arith);
         })
 
     pub resolve-ends : g ≤ list → (g ≡ last) × (bindings ≡ stored bindings₀ all v)
-        × ((start : ℕ) → start + countOver latest all ≡ end → sheet ≡ sets sheet₀ (start * 4) (faultWords (threes w latest all)))
+        × ((start : ℕ) → start + countOver latest all ≡ end → sheet ≡ sets sheet₀ (start * 4) (faultWords (overFaults w latest all)))
     resolve-ends h =
         let (e, f) = stop (k .chain) h in
         let none : countOver latest (k .rest) ≡ 0 = ap (countOver latest) e in (
           sym f,
           sym (ap (λ (gs : List ℕ). stored bindings gs v) e) ∙ k .bound,
           λ start i.
-              sym (ap (λ (gs : List ℕ). sets sheet (start * 4) (faultWords (threes w latest gs))) e) ∙ k .reported start (omega (arith, k .count)),
+              sym (ap (λ (gs : List ℕ). sets sheet (start * 4) (faultWords (overFaults w latest gs))) e) ∙ k .reported start (omega (arith, k .count)),
         )

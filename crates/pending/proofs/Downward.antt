@@ -16,7 +16,7 @@ use Rattle.rules.specs.Labels.{Fault, each, word}
 use Rattle.rules.proofs.Test.{case-of, case-found, clash}
 use Rattle.rules.proofs.Scan.{highest-found}
 use Rattle.rules.proofs.Each.{each-zero, each-suc}
-use Rattle.pending.specs.Chain.{Chain, ended, linked, three, threes, stored}
+use Rattle.pending.specs.Chain.{Chain, ended, linked, overFault, overFaults, stored}
 use Rattle.rules.proofs.Scan.{highest-same, highest-yes, highest-no}
 
 unfoldable pub down : (ℕ → Bool) → ℕ → List ℕ
@@ -69,7 +69,7 @@ module _ (P : ℕ → Bool) (lo : ℕ) (links : List ℕ) where
 
 -- ---- what each gives, in order
 pub each-down : (f : ℕ → List Fault) (w : List ℕ) (latest : ℕ) (Q : ℕ → Bool) (n : ℕ)
-    → ((g : ℕ) → g < n → Q g ≡ true → f g ≡ three w latest g) → ((g : ℕ) → g < n → Q g ≡ false → f g ≡ []) → threes w latest (down Q n) ≡ each f n
+    → ((g : ℕ) → g < n → Q g ≡ true → f g ≡ overFault w latest g) → ((g : ℕ) → g < n → Q g ≡ false → f g ≡ []) → overFaults w latest (down Q n) ≡ each f n
 each-down f w latest Q zero y z = rw (down-zero Q, each-zero f)
 each-down f w latest Q (suc n) y z =
     let r = each-down f w latest Q n (λ g l. y g (omega arith)) (λ g l. z g (omega arith)) in

@@ -28,7 +28,7 @@ use Rattle.rules.proofs.GotoRows.{list-some, in-list, isLater, later-parts, par
 use Rattle.rules.proofs.SheetRows.{isOver, is-over, jumps-none, jumps-some}
 use Rattle.tables.specs.Canon.{rowCanon, Tables}
 use Rattle.walk_state.specs.Walk.{previousPending, bindingAt, Walking}
-use Rattle.pending.specs.Chain.{Chain, three, threes}
+use Rattle.pending.specs.Chain.{Chain, overFault, overFaults}
 use Rattle.tables.proofs.Labelling.{label-class, label-numbered, row-canon-within, labels-canon, canon-labels}
 use Rattle.walk_state.proofs.TableRows.{list-read}
 use Rattle.walk_state.proofs.WalkBindings.{later-found, later-kept, binding-same, at-goto, at-later, at-other}
@@ -202,7 +202,7 @@ module _ {w p b cs ds ls : List ℕ} {x : ℕ} (tables : Tables w p b cs ds ls (
 
   -- ---- what it reports of those that it resolves
   module _ (latest : ℕ) (latest-is : latest ≡ word (latestDeclaration w p b x)) where
-    jumps-taken : (g : ℕ) → g < x → takes g ≡ true → jumpsOver w p b x g ≡ three w latest g
+    jumps-taken : (g : ℕ) → g < x → takes g ≡ true → jumpsOver w p b x g ≡ overFault w latest g
     jumps-taken g h t = case-found (latestDeclaration w p b x)
         (λ d e.
         let k = is-taken g t in
@@ -228,7 +228,7 @@ module _ {w p b cs ds ls : List ℕ} {x : ℕ} (tables : Tables w p b cs ds ls (
         (λ o. o)))
         (λ e. jumps-none w p b x g e)
 
-    pub jumps : threes w latest (down takes x) ≡ each (jumpsOver w p b x) x
+    pub jumps : overFaults w latest (down takes x) ≡ each (jumpsOver w p b x) x
     jumps = each-down (jumpsOver w p b x) w latest takes x jumps-taken jumps-not
 
   -- ---- what it binds

@@ -31,7 +31,7 @@ use Rattle.walk_state.proofs.WalkBindings.{wordAt, word-before, word-from, bind
 use Rattle.walk_state.proofs.WalkPending.{waits}
 use Rattle.walk_state.proofs.WalkRoom.{faults-fit}
 use Rattle.walk_state.proofs.WalkRows.{goto-or-label-other}
-use Rattle.pending.proofs.Chained.{threes-length}
+use Rattle.pending.proofs.Chained.{over-faults-length}
 use Rattle.pending.proofs.Downward.{down, highest-word, stored-length, stored-not, stored-at, stored-drop}
 use Rattle.pending.proofs.LabelRow.{
   no-goto,
@@ -194,7 +194,7 @@ module _ {w p b cs ds ls s t heads goto-or-label : List ℕ} {x faults latest : 
   left-within = omega (arith, highest-word (waits w p b x (rowCanon w p b x)) (lo tables row label), list-within tables row label)
 
   jump-count : countOver latest taken ≡ length js
-  jump-count = sym (threes-length w latest taken) ∙ ap length (jumps tables row label latest latest-is)
+  jump-count = sym (over-faults-length w latest taken) ∙ ap length (jumps tables row label latest latest-is)
 
   pub head-place : {c : ℕ} → c ≡ getD cs (name w x) 0 → c < length heads
   head-place {c} e = omega (arith, canon-read tables x c row e, canon-in tables row label, walking .heads-room)

@@ -22,12 +22,12 @@ countOver latest [] = 0
 countOver latest (g ∷ gs) = elim (ltb (suc g) latest) [ true ↦ suc (countOver latest gs) | false ↦ countOver latest gs ]
 
 -- their reports, in the order of the rows
-abbrev pub three : List ℕ → ℕ → ℕ → List Fault
-three w latest g = only (ltb (suc g) latest) (record { code = 3; position = position w g; name = name w g; other = position w (latest - 1) })
+abbrev pub overFault : List ℕ → ℕ → ℕ → List Fault
+overFault w latest g = only (ltb (suc g) latest) (record { code = 3; position = position w g; name = name w g; other = position w (latest - 1) })
 
-abbrev pub threes : List ℕ → ℕ → List ℕ → List Fault
-threes w latest [] = []
-threes w latest (g ∷ gs) = threes w latest gs ++ three w latest g
+abbrev pub overFaults : List ℕ → ℕ → List ℕ → List Fault
+overFaults w latest [] = []
+overFaults w latest (g ∷ gs) = overFaults w latest gs ++ overFault w latest g
 
 -- the word v at each of the rows
 abbrev pub stored : List ℕ → List ℕ → ℕ → List ℕ
@@ -56,7 +56,7 @@ pub record Resolving (w sheet bindings links : List ℕ) (head row list latest e
 pub record Resolved (w sheet bindings sheet′ bindings′ : List ℕ) (row latest end last r : ℕ) (gs : List ℕ) : Type 0 where
   pub left : r ≡ last
   pub bound : bindings′ ≡ stored bindings gs (suc row)
-  pub reported : (start : ℕ) → start + countOver latest gs ≡ end → sheet′ ≡ sets sheet (start * 4) (faultWords (threes w latest gs))
+  pub reported : (start : ℕ) → start + countOver latest gs ≡ end → sheet′ ≡ sets sheet (start * 4) (faultWords (overFaults w latest gs))
 
 -- the label's own binding, or its two reports
 pub record Declaring (w sheet bindings sheet′ bindings′ : List ℕ) (declared row faults r : ℕ) : Type 0 where

@@ -27,7 +27,7 @@ module _ (p b t : List ℕ) where
     from = omega arith;
     upto = omega arith;
     below = λ k h. let z : k ≡ 0 = omega arith in rw z (getD-set-same t 0 0 0 (omega arith) ∙ sym (canon-none p b));
-    above = λ k g h. getD-set-other t 0 k 0 0 (λ e. omega arith) ∙ x .firsts k (omega arith) h;
+    above = λ k g h. getD-set-other t 0 k 0 0 (λ e. omega arith) ∙ x .numbers k (omega arith) h;
   }
 
   module _ (n : ℕ) (x : Filling p b t n) (within : n ≤ pairCount p) where

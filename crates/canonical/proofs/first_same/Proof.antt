@@ -11,10 +11,10 @@ use Rattle.canonical.proofs.first_same.Statement.{statement}
 use Rattle.canonical.proofs.first_same.Tie as tie
 
 abbrev Inv-loop : tie.InvT-loop
-Inv-loop pairs bytes heads next-in-slot keys firsts n key slot m₀ m = Chain pairs bytes (length heads) slot n m
+Inv-loop pairs bytes heads next-in-slot keys numbers n key slot m₀ m = Chain pairs bytes (length heads) slot n m
 
 abbrev μ-loop : tie.MeasureT-loop
-μ-loop pairs bytes heads next-in-slot keys firsts n key slot m₀ m = m
+μ-loop pairs bytes heads next-in-slot keys numbers n key slot m₀ m = m
 
 mul-wide-number : tie.Need-mul-wide-number Inv-loop μ-loop
 mul-wide-number c = search needs

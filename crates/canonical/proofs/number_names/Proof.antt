@@ -10,11 +10,11 @@ use Rattle.canonical.proofs.number_names.Statement.{statement}
 use Rattle.canonical.proofs.number_names.Tie as tie
 
 abbrev Inv-loop : tie.InvT-loop
-Inv-loop pairs bytes heads₀ next-in-slot₀ keys₀ firsts₀ count n₀ heads next-in-slot keys firsts n =
-    Numbering pairs bytes heads₀ next-in-slot₀ keys₀ firsts₀ heads next-in-slot keys firsts n
+Inv-loop pairs bytes heads₀ next-in-slot₀ keys₀ numbers₀ count n₀ heads next-in-slot keys numbers n =
+    Numbering pairs bytes heads₀ next-in-slot₀ keys₀ numbers₀ heads next-in-slot keys numbers n
 
 abbrev μ-loop : tie.MeasureT-loop
-μ-loop pairs bytes heads₀ next-in-slot₀ keys₀ firsts₀ count n₀ heads next-in-slot keys firsts n = count - n
+μ-loop pairs bytes heads₀ next-in-slot₀ keys₀ numbers₀ count n₀ heads next-in-slot keys numbers n = count - n
 
 -- ---- points of the code that the answers below go back to
 abbrev at-start-1 : tie.After-slice-known4 Inv-loop μ-loop → tie.Start Inv-loop μ-loop
@@ -62,17 +62,17 @@ first-same-requires c κs =
     let own = key-slot _ _ _ _ (k .before .wide-word .ensures) (k .slot .ensures .0) in
     ((r .room, l .loop-test .taken), ((r .heads, r .linked), (hashed, own, k .slot .ensures .1)))
 
-cast-firsts : tie.Need-cast-firsts Inv-loop μ-loop
-cast-firsts c =
+cast-numbers : tie.Need-cast-numbers Inv-loop μ-loop
+cast-numbers c =
     let s = at-start-2 c in
     let n = at-loop-1 c .loop .n in
     omega (arith, c .first-same .ensures, first-within (s .args .pairs .now) (s .args .bytes .now) (suc n), number-small _ _ (s .pre .0 .0))
 
-mul-firsts : tie.Need-mul-firsts Inv-loop μ-loop
-mul-firsts c = search needs
+mul-numbers : tie.Need-mul-numbers Inv-loop μ-loop
+mul-numbers c = search needs
 
-slice-write-firsts : tie.Need-slice-write-firsts Inv-loop μ-loop
-slice-write-firsts c = search needs
+slice-write-numbers : tie.Need-slice-write-numbers Inv-loop μ-loop
+slice-write-numbers c = search needs
 
 mul-keys : tie.Need-mul-keys Inv-loop μ-loop
 mul-keys c = search needs
@@ -147,9 +147,9 @@ number-names-spec =
     wide-word-requires
     slot-requires
     first-same-requires
-    cast-firsts
-    mul-firsts
-    slice-write-firsts
+    cast-numbers
+    mul-numbers
+    slice-write-numbers
     mul-keys
     slice-write-keys
     mul-next-in-slot
