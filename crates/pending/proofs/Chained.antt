@@ -125,7 +125,8 @@ pub over-faults-sets : (w s : List ℕ) (latest g : ℕ) (gs : List ℕ) (start 
     → sets s (start * 4) (faultWords (overFaults w latest (g ∷ gs))) ≡ sets (sets s ((at - 1) * 4) (wordsOfOver w latest g)) (start * 4)
     (faultWords (overFaults w latest gs))
 over-faults-sets w s latest g gs start at h e =
-    let n : start * 4 + length (faultWords (overFaults w latest gs)) ≡ (at - 1) * 4 = omega (arith, words-length (overFaults w latest gs), over-faults-length w latest gs) in
+    let n : start * 4 + length (faultWords (overFaults w latest gs)) ≡ (at - 1) * 4 =
+    omega (arith, words-length (overFaults w latest gs), over-faults-length w latest gs) in
     rw (over-faults-yes w latest g gs h)
     (sets-append (faultWords (overFaults w latest gs)) (wordsOfOver w latest g) s (start * 4)
     ∙ ap (λ (i : ℕ). sets (sets s i (wordsOfOver w latest g)) (start * 4) (faultWords (overFaults w latest gs))) n)

@@ -8,7 +8,8 @@ use Rattle.cases.proofs.all_lines.Statement.{statement}
 use Rattle.cases.proofs.all_lines.Tie as tie
 
 abbrev Inv-loop : tie.InvT-loop
-Inv-loop list rows₀ pairs₀ name-bytes₀ used₀ at₀ rows pairs name-bytes used at = (length rows ≡ length rows₀) × (length pairs ≡ length pairs₀) × (length name-bytes ≡ length name-bytes₀)
+Inv-loop list rows₀ pairs₀ name-bytes₀ used₀ at₀ rows pairs name-bytes used at =
+    (length rows ≡ length rows₀) × (length pairs ≡ length pairs₀) × (length name-bytes ≡ length name-bytes₀)
 
 abbrev μ-loop : tie.MeasureT-loop
 μ-loop list rows₀ pairs₀ name-bytes₀ used₀ at₀ rows pairs name-bytes used at = length list - at
