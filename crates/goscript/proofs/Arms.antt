@@ -8,36 +8,8 @@ use Prim.Native.Nat.{ℕ, suc}
 use borrow.Author.Tests.{eq-eqb, ne-eqb}
 use Rattle.rules.specs.Rows.{position, name, end}
 use Rattle.rules.specs.Names.{isBlank}
-use Rattle.rules.specs.Class.{
-  Class,
-  plain,
-  declaration,
-  empty,
-  labeled,
-  stop,
-  break,
-  continue,
-  goto,
-  fallthrough,
-  block,
-  caseBlock,
-  commBlock,
-  if,
-  ifElse,
-  case,
-  defaultCase,
-  comm,
-  defaultComm,
-  switch,
-  typeSwitch,
-  select,
-  for,
-  forCond,
-  oneOf,
-  isBreakable,
-  isLoop,
-  class,
-}
+use Rattle.rules.specs.Class.{Class, plain, declaration, empty, labeled, stop, break, continue, goto, fallthrough, block, caseBlock, commBlock, if, ifElse}
+use Rattle.rules.specs.Class.{case, defaultCase, comm, defaultComm, switch, typeSwitch, select, for, forCond, oneOf, isBreakable, isLoop, class}
 use Rattle.rules.specs.Scope.{isBlock}
 use Rattle.rules.specs.Labels.{fault}
 use Rattle.rules.proofs.ClassRules.{by-one}

@@ -5,20 +5,8 @@ use Rattle.goscript.specs.Syntax.{any, all, filter, findLast, through, c
 use Rattle.goscript.specs.Returns.{is-terminating, verdict}
 use Rattle.goscript.specs.Block.{insert, search, goto-target, enclosing-target}
 use Rattle.goscript.specs.Checker.{place, usedBy, bound}
-use Rattle.goscript.specs.Label.{
-  declare,
-  resolve,
-  resolveAll,
-  recordLabelUse,
-  labelledBreak,
-  gotoBranch,
-  block-branches,
-  leftJump,
-  unusedLabel,
-  labels,
-  sheet,
-  bindings,
-}
+use Rattle.goscript.specs.Label.{declare, resolve, resolveAll, recordLabelUse, labelledBreak, gotoBranch, block-branches, leftJump, unusedLabel}
+use Rattle.goscript.specs.Label.{labels, sheet, bindings}
 use Rattle.goscript.specs.Domains.{namesEnded, noneNamesEnded, carriesLabel, holdsLabel, noneLabelled}
 
 unfoldable pub computed : Type 0

@@ -3,26 +3,8 @@
 use mathlib.Core.Path.{refl}
 use mathlib.Core.List.{List, [], _∷_}
 use Prim.Native.Nat.{ℕ}
-use Rattle.rules.specs.Bodies.{
-  rowWords,
-  pairs,
-  bytes,
-  L,
-  M,
-  blank,
-  Labeled,
-  Break,
-  Continue,
-  Goto,
-  Block,
-  Switch,
-  Select,
-  For,
-  ForCond,
-  body1,
-  body6,
-  selectInLoop,
-}
+use Rattle.rules.specs.Bodies.{rowWords, pairs, bytes, L, M, blank, Labeled, Break, Continue, Goto, Block, Switch, Select, For, ForCond, body1, body6}
+use Rattle.rules.specs.Bodies.{selectInLoop}
 use Rattle.rules.proofs.Computed.{computed as rulesComputed}
 use Rattle.goscript.specs.Build.{stock}
 use Rattle.goscript.specs.Domains.{namesEnded, noneNamesEnded, carriesLabel, holdsLabel, noneLabelled}

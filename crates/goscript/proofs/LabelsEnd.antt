@@ -13,22 +13,8 @@ use Rattle.rules.specs.Rows.{rowCount, size}
 use Rattle.rules.specs.Class.{isBranch, class}
 use Rattle.rules.specs.Names.{pairCount}
 use Rattle.rules.specs.Body.{Body}
-use Rattle.rules.specs.Labels.{
-  Fault,
-  each,
-  is,
-  fault,
-  isLabel,
-  declared,
-  binding,
-  report,
-  unresolved,
-  used,
-  declaredAt,
-  unused,
-  sheet as sheetOf,
-  bindings as bindingsOf,
-}
+use Rattle.rules.specs.Labels.{Fault, each, is, fault, isLabel, declared, binding, report, unresolved, used, declaredAt, unused, sheet as sheetOf}
+use Rattle.rules.specs.Labels.{bindings as bindingsOf}
 use Rattle.rules.proofs.Test.{case-of, case-found, clash}
 use Rattle.rules.proofs.Each.{each-zero}
 use Rattle.rules.proofs.ClassTests.{break-branch, branch-goto}

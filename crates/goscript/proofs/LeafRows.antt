@@ -36,21 +36,8 @@ use Rattle.goscript.proofs.CheckerRows.{uses-blocks, uses-ctx}
 use Rattle.goscript.proofs.ContextRows.{context-same, context-declares, context-waits}
 use Rattle.goscript.proofs.BlockRows.{visible-earlier, blocks-same}
 use Rattle.goscript.proofs.Stacked.{Stacked, target-is}
-use Rattle.goscript.proofs.Arms.{
-  isQuiet,
-  has-label,
-  has-none,
-  break-used,
-  break-reported,
-  goto-used,
-  goto-pushed,
-  at-quiet,
-  at-declaration,
-  at-break,
-  at-continue,
-  at-goto,
-  at-fallthrough,
-}
+use Rattle.goscript.proofs.Arms.{isQuiet, has-label, has-none, break-used, break-reported, goto-used, goto-pushed, at-quiet, at-declaration}
+use Rattle.goscript.proofs.Arms.{at-break, at-continue, at-goto, at-fallthrough}
 
 -- neither label, branch nor declaration
 abbrev pub isOther : Class → Bool

@@ -12,22 +12,7 @@ use native.Mathlib.Decide.{ℕ-discrete}
 use borrow.Author.Tests.{not-true}
 use Rattle.rules.specs.Scan.{lowest}
 use Rattle.rules.specs.Rows.{rowCount, name, size, end, here, later}
-use Rattle.rules.specs.Class.{
-  plain,
-  declaration,
-  empty,
-  labeled,
-  stop,
-  break,
-  continue,
-  goto,
-  fallthrough,
-  if,
-  ifElse,
-  oneOf,
-  isBreakable,
-  class,
-}
+use Rattle.rules.specs.Class.{plain, declaration, empty, labeled, stop, break, continue, goto, fallthrough, if, ifElse, oneOf, isBreakable, class}
 use Rattle.rules.specs.Names.{sameName}
 use Rattle.rules.specs.Refusals.{nothing, holding}
 use Rattle.rules.specs.Scope.{isList, isBlock}
@@ -49,20 +34,8 @@ use Rattle.goscript.specs.Syntax.{any, list, ident}
 use Rattle.goscript.specs.Returns.{is, isSome, has-break, has-break-list}
 use Rattle.goscript.proofs.OneBlock.{hasBlock, block-below}
 use Rattle.goscript.proofs.ListItems.{of-list}
-use Rattle.goscript.proofs.VerdictSteps.{
-  isBreakless,
-  any-none,
-  any-more,
-  search-breakless,
-  search-labeled,
-  search-plain,
-  search-named,
-  search-list,
-  search-if,
-  search-ifElse,
-  search-breakable,
-  list-search,
-}
+use Rattle.goscript.proofs.VerdictSteps.{isBreakless, any-none, any-more, search-breakless, search-labeled, search-plain, search-named, search-list}
+use Rattle.goscript.proofs.VerdictSteps.{search-if, search-ifElse, search-breakable, list-search}
 use Rattle.goscript.proofs.VerdictSearch.{labelOf, named-label, Handed, hidesNone, by-search}
 
 module _ {build : Build} {w p b : List ℕ} (body : Body w p b) (s : ℕ) (row : s < rowCount w) (handed : Handed build w p b s) where

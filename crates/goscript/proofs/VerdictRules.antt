@@ -27,17 +27,8 @@ use Rattle.returns.proofs.RowRule.{part-of}
 use Rattle.goscript.specs.Build.{Build}
 use Rattle.goscript.specs.Syntax.{list, ident}
 use Rattle.goscript.specs.Returns.{is-terminating, is-terminating-list, verdict}
-use Rattle.goscript.proofs.VerdictSteps.{
-  statement-never,
-  statement-always,
-  statement-labeled,
-  statement-block,
-  statement-ifElse,
-  statement-switch,
-  statement-select,
-  statement-for,
-  verdict-is,
-}
+use Rattle.goscript.proofs.VerdictSteps.{statement-never, statement-always, statement-labeled, statement-block, statement-ifElse, statement-switch}
+use Rattle.goscript.proofs.VerdictSteps.{statement-select, statement-for, verdict-is}
 use Rattle.goscript.proofs.VerdictSearch.{labelOf, named-label, Handed}
 use Rattle.goscript.proofs.VerdictBreaks.{block-breaks}
 use Rattle.goscript.proofs.VerdictLists.{Answered, list-rule}

@@ -10,16 +10,7 @@ use Prim.Native.Nat.{ℕ, zero, suc, _<_}
 use native.Mathlib.Omega.{arith}
 use Rattle.rules.specs.Scan.{lowest}
 use Rattle.rules.specs.Rows.{end}
-use Rattle.rules.specs.Class.{
-  Class,
-  labeled,
-  break,
-  if,
-  ifElse,
-  oneOf,
-  isBreakable,
-  class,
-}
+use Rattle.rules.specs.Class.{Class, labeled, break, if, ifElse, oneOf, isBreakable, class}
 use Rattle.rules.specs.Names.{nameBytes}
 use Rattle.rules.specs.Scope.{isList, holdsItems}
 use Rattle.rules.proofs.Test.{case-of}

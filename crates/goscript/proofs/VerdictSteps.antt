@@ -8,52 +8,15 @@ use mathlib.Core.Option.{Option, none, some}
 use Prim.Native.Nat.{ℕ, suc, _+_}
 use borrow.Author.Tests.{eq-eqb, ne-eqb}
 use Rattle.rules.specs.Rows.{name, size, end}
-use Rattle.rules.specs.Class.{
-  Class,
-  plain,
-  declaration,
-  empty,
-  labeled,
-  stop,
-  break,
-  continue,
-  goto,
-  fallthrough,
-  block,
-  if,
-  ifElse,
-  case,
-  defaultCase,
-  comm,
-  defaultComm,
-  switch,
-  typeSwitch,
-  select,
-  for,
-  forCond,
-  oneOf,
-  isSwitch,
-  isBreakable,
-  class,
-}
+use Rattle.rules.specs.Class.{Class, plain, declaration, empty, labeled, stop, break, continue, goto, fallthrough, block, if, ifElse, case, defaultCase}
+use Rattle.rules.specs.Class.{comm, defaultComm, switch, typeSwitch, select, for, forCond, oneOf, isSwitch, isBreakable, class}
 use Rattle.rules.specs.Scope.{isList}
 use Rattle.rules.proofs.Test.{case-of}
 use Rattle.rules.proofs.ClassRules.{isNever, isAlways, by-one, breakable-one}
 use Rattle.goscript.specs.Build.{Build}
 use Rattle.goscript.specs.Syntax.{any, all, findLast, list, ident}
-use Rattle.goscript.specs.Returns.{
-  is,
-  isSome,
-  handedLabel,
-  handedImplicit,
-  nonEmpty,
-  is-terminating,
-  is-terminating-list,
-  is-terminating-switch,
-  has-break,
-  has-break-list,
-  verdict,
-}
+use Rattle.goscript.specs.Returns.{is, isSome, handedLabel, handedImplicit, nonEmpty, is-terminating, is-terminating-list, is-terminating-switch}
+use Rattle.goscript.specs.Returns.{has-break, has-break-list, verdict}
 
 -- ---- lists of rows
 module _ (P : ℕ → Bool) where

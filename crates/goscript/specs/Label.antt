@@ -8,35 +8,8 @@ use Prim.Native.Nat.{ℕ, zero, suc, _+_}
 use lib.Dec.{eqb}
 use Rattle.rules.specs.Rows.{rowCount, position, name, size, end}
 use Rattle.rules.specs.Names.{sameBytes, isBlank}
-use Rattle.rules.specs.Class.{
-  Class,
-  plain,
-  declaration,
-  empty,
-  labeled,
-  stop,
-  break,
-  continue,
-  goto,
-  fallthrough,
-  block,
-  caseBlock,
-  commBlock,
-  if,
-  ifElse,
-  case,
-  defaultCase,
-  comm,
-  defaultComm,
-  switch,
-  typeSwitch,
-  select,
-  for,
-  forCond,
-  isBreakable,
-  isLoop,
-  class,
-}
+use Rattle.rules.specs.Class.{Class, plain, declaration, empty, labeled, stop, break, continue, goto, fallthrough, block, caseBlock, commBlock, if, ifElse}
+use Rattle.rules.specs.Class.{case, defaultCase, comm, defaultComm, switch, typeSwitch, select, for, forCond, isBreakable, isLoop, class}
 use Rattle.rules.specs.Labels.{Fault, fault, each}
 use Rattle.goscript.specs.Build.{original, mended, Build}
 use Rattle.goscript.specs.Syntax.{filter, through, contains, list, ident, lookup}

@@ -34,18 +34,8 @@ use Rattle.jumps.proofs.BranchRows.{zero-break, not-zero-continue, brea
 use Rattle.walk_state.proofs.WalkBindings.{at-goto, at-later, at-other, later-own}
 use Rattle.walk_state.proofs.WalkPending.{pending-other, pending-earlier, pending-own}
 use Rattle.walk_state.proofs.WalkRoom.{faults-fit}
-use Rattle.walk_state.proofs.WalkRows.{
-  Written,
-  goto-or-label-other,
-  written-same,
-  written-bound,
-  written-fault,
-  one-fits,
-  walked,
-  walked-blank,
-  walked-pending,
-  idle-walked,
-}
+use Rattle.walk_state.proofs.WalkRows.{Written, goto-or-label-other, written-same, written-bound, written-fault, one-fits, walked, walked-blank}
+use Rattle.walk_state.proofs.WalkRows.{walked-pending, idle-walked}
 
 no-block : (c : Class) → isBranch c ≡ true → isBlock c ≡ false
 unfolding every lowest

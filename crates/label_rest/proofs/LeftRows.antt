@@ -36,15 +36,7 @@ use Rattle.rules.proofs.RowNames.{name-within}
 use Rattle.rules.proofs.LabelRows.{is-declared}
 use Rattle.rules.proofs.GotoRows.{goto-earlier, goto-later, is-pending, some-goto-label}
 use Rattle.rules.proofs.BindingRows.{branch-label, binding-goto, bound}
-use Rattle.rules.proofs.SheetRows.{
-  unresolved-not,
-  unresolved-declared,
-  unresolved-none,
-  uses,
-  uses-binding,
-  uses-pending,
-  uses-cases,
-}
+use Rattle.rules.proofs.SheetRows.{unresolved-not, unresolved-declared, unresolved-none, uses, uses-binding, uses-pending, uses-cases}
 use Rattle.tables.specs.Canon.{rowCanon, declaredFor, CanonTable, DeclaredTable}
 use Rattle.walk_state.specs.Walk.{faultsAt, bindingAt}
 use Rattle.walk_state.proofs.WalkFaults.{snoc-length, put-length, put-reported, put-kept}

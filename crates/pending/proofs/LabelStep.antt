@@ -33,23 +33,8 @@ use Rattle.walk_state.proofs.WalkRoom.{faults-fit}
 use Rattle.walk_state.proofs.WalkRows.{goto-or-label-other}
 use Rattle.pending.proofs.Chained.{over-faults-length}
 use Rattle.pending.proofs.Downward.{down, highest-word, stored-length, stored-not, stored-at, stored-drop}
-use Rattle.pending.proofs.LabelRow.{
-  no-goto,
-  no-block,
-  numbered-row,
-  canon-in,
-  lo,
-  list-within,
-  takes,
-  head-other,
-  head-own,
-  still-waits,
-  link-same,
-  jumps,
-  bound-taken,
-  bound-not,
-  chain,
-}
+use Rattle.pending.proofs.LabelRow.{no-goto, no-block, numbered-row, canon-in, lo, list-within, takes, head-other, head-own, still-waits, link-same}
+use Rattle.pending.proofs.LabelRow.{jumps, bound-taken, bound-not, chain}
 
 -- ---- faults put behind k others
 module _ (s : List ℕ) (k : ℕ) (fs : List Fault) (fits : (k + length fs) * 4 ≤ length s) where

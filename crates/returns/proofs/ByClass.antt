@@ -22,22 +22,9 @@ use Rattle.rules.proofs.Shape.{opens}
 use Rattle.rules.proofs.ClassRules.{isClauseBlock, isNever, isAlways, opens-holds, class-rule, child-rule}
 use Rattle.rules.proofs.Nesting.{item-before, item-from}
 use Rattle.rules.proofs.Around.{only-empty, all-empty}
-use Rattle.rules.proofs.Terminating.{
-  terminating-never,
-  terminating-always,
-  terminating-labeled,
-  terminating-statements,
-  terminating-clauses,
-  terminating-ifElse,
-  terminating-switch,
-  terminating-select,
-  terminating-for,
-  list-none,
-  list-last,
-  list-more,
-  clauses-none,
-  clauses-more,
-}
+use Rattle.rules.proofs.Terminating.{terminating-never, terminating-always, terminating-labeled, terminating-statements, terminating-clauses}
+use Rattle.rules.proofs.Terminating.{terminating-ifElse, terminating-switch, terminating-select, terminating-for, list-none, list-last, list-more}
+use Rattle.rules.proofs.Terminating.{clauses-none, clauses-more}
 use Rattle.returns.specs.Search.{Closed, Last, isTerminating, isTerminatingList}
 use Rattle.returns.proofs.Ranges.{closed-below, closed-rest}
 use Rattle.returns.proofs.Enough.{enough}

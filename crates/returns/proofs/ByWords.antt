@@ -8,26 +8,8 @@ use lib.Dec.{eqb}
 use borrow.Author.Tests.{ne-eqb, not-true}
 use Rattle.rules.specs.Scan.{lowest}
 use Rattle.rules.specs.Rows.{kind, detail}
-use Rattle.rules.specs.Class.{
-  Class,
-  empty,
-  labeled,
-  break,
-  block,
-  ifElse,
-  select,
-  for,
-  oneOf,
-  isSwitch,
-  isBreakable,
-  isBranch,
-  isStatement,
-  detailAllowed,
-  classOf,
-  base,
-  following,
-  class,
-}
+use Rattle.rules.specs.Class.{Class, empty, labeled, break, block, ifElse, select, for, oneOf, isSwitch, isBreakable, isBranch, isStatement, detailAllowed}
+use Rattle.rules.specs.Class.{classOf, base, following, class}
 use Rattle.rules.specs.Labels.{isClass}
 use Rattle.rules.proofs.Test.{and-true}
 use Rattle.rules.proofs.Every.{every, implies, implied, same, same-eq, classAt, of-class, of-classes, is-one}

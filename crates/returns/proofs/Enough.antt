@@ -15,24 +15,9 @@ use Rattle.rules.specs.Verdict.{anyDefault, hasDefault, hasBreak, terminating, 
 use Rattle.rules.specs.Body.{Body, OneChild, TwoChildren}
 use Rattle.rules.proofs.Test.{case-of}
 use Rattle.rules.proofs.ClassRules.{opens-holds, by-rule}
-use Rattle.rules.proofs.Terminating.{
-  any-default-more,
-  any-default-none,
-  terminating-never,
-  terminating-always,
-  terminating-labeled,
-  terminating-statements,
-  terminating-clauses,
-  terminating-ifElse,
-  terminating-switch,
-  terminating-select,
-  terminating-for,
-  list-none,
-  list-last,
-  list-more,
-  clauses-none,
-  clauses-more,
-}
+use Rattle.rules.proofs.Terminating.{any-default-more, any-default-none, terminating-never, terminating-always, terminating-labeled, terminating-statements}
+use Rattle.rules.proofs.Terminating.{terminating-clauses, terminating-ifElse, terminating-switch, terminating-select, terminating-for, list-none, list-last}
+use Rattle.rules.proofs.Terminating.{list-more, clauses-none, clauses-more}
 use Rattle.returns.specs.Search.{Closed}
 use Rattle.returns.proofs.Ranges.{closed-below, closed-rest}
 

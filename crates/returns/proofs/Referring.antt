@@ -17,17 +17,8 @@ use Rattle.rules.proofs.Test.{case-of, case-found}
 use Rattle.rules.proofs.Every.{is-one}
 use Rattle.rules.proofs.Around.{Innermost, innermost-found, innermost-last, innermost-none}
 use Rattle.rules.proofs.RowNames.{same-sym, labeled-named}
-use Rattle.rules.proofs.Terminating.{
-  label-on as on-label-row,
-  on-label,
-  refers-inside,
-  refers-innermost,
-  refers-labelled,
-  innermost-refers,
-  label-refers,
-  no-break,
-  some-break,
-}
+use Rattle.rules.proofs.Terminating.{label-on as on-label-row, on-label, refers-inside, refers-innermost, refers-labelled, innermost-refers, label-refers}
+use Rattle.rules.proofs.Terminating.{no-break, some-break}
 use Rattle.returns.specs.Search.{labelNumber, anyLeaves}
 use Rattle.returns.proofs.Ranges.{label-of-first, label-on, no-label-on}
 use Rattle.returns.proofs.Leaving.{both, Leaves, plain, labelled, is-break, is-some, some-is}

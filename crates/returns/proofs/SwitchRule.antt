@@ -17,19 +17,8 @@ use Rattle.rules.proofs.Terminating.{isDefault}
 use Rattle.returns.specs.Search.{labelNumber, Closed, isTerminating, isTerminatingList, anyLeaves}
 use Rattle.returns.proofs.Ranges.{closed-rest}
 use Rattle.returns.proofs.Calls.{ListCall, list-call}
-use Rattle.returns.proofs.Clauses.{
-  isClause,
-  clause-list,
-  left,
-  clause-default,
-  left-ended,
-  left-open,
-  left-broken,
-  left-next,
-  clauses-closed,
-  clause-of,
-  left-start,
-}
+use Rattle.returns.proofs.Clauses.{isClause, clause-list, left, clause-default, left-ended, left-open, left-broken, left-next, clauses-closed}
+use Rattle.returns.proofs.Clauses.{clause-of, left-start}
 
 -- the row r, of size n, is a switch or Select, and t is its measure
 pub record Opened (w p b : List ℕ) (t r label n : ℕ) (found : Bool) : Type 0 where

@@ -10,22 +10,8 @@ use lib.ListN.{getD, take}
 use Rattle.rules.specs.Scan.{lowest}
 use Rattle.rules.specs.Rows.{rowCount, depth}
 use Rattle.rules.specs.Names.{pairCount, badNameWords, badPair}
-use Rattle.rules.specs.Refusals.{
-  badRowWords,
-  badRow,
-  badSize,
-  badShape,
-  cause1,
-  cause2,
-  cause3,
-  cause4,
-  cause5,
-  cause6,
-  causes,
-  firstCause,
-  refusal,
-  WellFormed,
-}
+use Rattle.rules.specs.Refusals.{badRowWords, badRow, badSize, badShape, cause1, cause2, cause3, cause4, cause5, cause6, causes, firstCause, refusal}
+use Rattle.rules.specs.Refusals.{WellFormed}
 use Rattle.rules.proofs.Test.{case-of, case-found, clash}
 
 -- ---- lists of causes

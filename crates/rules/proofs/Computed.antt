@@ -7,32 +7,9 @@ use Rattle.rules.specs.Names.{previousEnd, badNameWords, badPair, namesO
 use Rattle.rules.specs.Refusals.{badRowWords, nameAllowed, badRow, badSize, childrenFit, isBody, badShape, cause1, cause2, cause3, cause4, cause5}
 use Rattle.rules.specs.Refusals.{cause6, firstCause, refusal}
 use Rattle.rules.specs.Scope.{innermost, listOf, inListOf, onlyEmpty, nextCase}
-use Rattle.rules.specs.Labels.{
-  each,
-  isLabel,
-  labels,
-  declared,
-  earlier,
-  later,
-  gotoLabel,
-  latestDeclaration,
-  pending,
-  lastInRun,
-  inBlockOf,
-  target,
-  validTarget,
-  labelledBreak,
-  binding,
-  jumpsOver,
-  repeated,
-  report,
-  unresolved,
-  used,
-  declaredAt,
-  unused,
-  sheet,
-  bindings,
-}
+use Rattle.rules.specs.Labels.{each, isLabel, labels, declared, earlier, later, gotoLabel, latestDeclaration, pending, lastInRun, inBlockOf, target}
+use Rattle.rules.specs.Labels.{validTarget, labelledBreak, binding, jumpsOver, repeated, report, unresolved, used, declaredAt, unused, sheet}
+use Rattle.rules.specs.Labels.{bindings}
 use Rattle.rules.specs.Placing.{endsCase, wellPlaced, badlyPlaced, placing}
 use Rattle.rules.specs.Verdict.{labelOn, refersTo, hasBreak, anyDefault, hasDefault, terminating, terminatingList, terminatingClauses, verdict}
 use Rattle.rules.specs.Runner.{climb, after, breakTo, continueTo, gotoTo, itemAt, itemCount, clauseCount, choices, step}

@@ -15,23 +15,9 @@ use Rattle.rules.proofs.Test.{case-of, clash, and-true}
 use Rattle.rules.proofs.Nesting.{item-before, item-from}
 use Rattle.rules.proofs.ClassRules.{isClauseBlock, isNever, by-one, breakable-one}
 use Rattle.rules.proofs.Around.{AllEmpty, only-empty, all-empty}
-use Rattle.rules.proofs.Terminating.{
-  terminating-zero,
-  terminating-never,
-  terminating-labeled,
-  terminating-statements,
-  terminating-clauses,
-  terminating-ifElse,
-  terminating-switch,
-  terminating-select,
-  terminating-for,
-  list-zero,
-  list-none,
-  list-last,
-  list-more,
-  clauses-zero,
-  clauses-more,
-}
+use Rattle.rules.proofs.Terminating.{terminating-zero, terminating-never, terminating-labeled, terminating-statements, terminating-clauses}
+use Rattle.rules.proofs.Terminating.{terminating-ifElse, terminating-switch, terminating-select, terminating-for, list-zero, list-none, list-last}
+use Rattle.rules.proofs.Terminating.{list-more, clauses-zero, clauses-more}
 
 -- ---- lists and clauses
 module _ (w p b : List ℕ) where

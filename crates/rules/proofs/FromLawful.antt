@@ -12,23 +12,8 @@ use native.Mathlib.Decide.{decLt}
 use Rattle.rules.specs.Rows.{rowCount, name}
 use Rattle.rules.specs.Class.{labeled, break, continue, goto, fallthrough, oneOf, class}
 use Rattle.rules.specs.Body.{Body}
-use Rattle.rules.specs.Labels.{
-  each,
-  sameNames,
-  isLabel,
-  labels,
-  declared,
-  gotoLabel,
-  latestDeclaration,
-  labelledBreak,
-  binding,
-  jumpsOver,
-  repeated,
-  report,
-  used,
-  declaredAt,
-  unused,
-}
+use Rattle.rules.specs.Labels.{each, sameNames, isLabel, labels, declared, gotoLabel, latestDeclaration, labelledBreak, binding, jumpsOver, repeated}
+use Rattle.rules.specs.Labels.{report, used, declaredAt, unused}
 use Rattle.rules.specs.Law.{Label, LawfulTarget, LawfulLabel, Lawful, lawful-break, lawful-continue, lawful-goto, AllLawful}
 use Rattle.rules.proofs.Test.{case-of, case-found, clash}
 use Rattle.rules.proofs.Each.{none-append, none-each, none-only}
@@ -38,24 +23,8 @@ use Rattle.rules.proofs.LabelRows.{is-label, label-labels, labels-label
 use Rattle.rules.proofs.GotoRows.{earlier-is, parts-later, later-none, goto-label, some-goto-label, is-latest, Pending, is-pending, not-pending}
 use Rattle.rules.proofs.BreakRows.{labelled-is, is-labelled, valid-is}
 use Rattle.rules.proofs.BindingRows.{binding-goto, binding-break, branch-label}
-use Rattle.rules.proofs.SheetRows.{
-  isOver,
-  is-over,
-  jumps-none,
-  jumps-some,
-  repeated-not,
-  report-label,
-  report-valid,
-  report-other,
-  unresolved-not,
-  uses-binding,
-  used-is,
-  is-ranked,
-  is-declared-at,
-  unused-none,
-  unused-not,
-  NoFault,
-}
+use Rattle.rules.proofs.SheetRows.{isOver, is-over, jumps-none, jumps-some, repeated-not, report-label, report-valid, report-other, unresolved-not}
+use Rattle.rules.proofs.SheetRows.{uses-binding, used-is, is-ranked, is-declared-at, unused-none, unused-not, NoFault}
 
 -- ---- the destination by the branch's class
 module _ {w p b : List ℕ} {g : ℕ} where

@@ -15,21 +15,8 @@ use Rattle.rules.specs.Class.{declaration, break, continue, goto, oneOf,
 use Rattle.rules.specs.Names.{rank}
 use Rattle.rules.specs.Scope.{listOf}
 use Rattle.rules.specs.Body.{Body}
-use Rattle.rules.specs.Labels.{
-  each,
-  sameNames,
-  declared,
-  earlier,
-  later,
-  latestDeclaration,
-  pending,
-  validTarget,
-  jumpsOver,
-  repeated,
-  used,
-  declaredAt,
-  unused,
-}
+use Rattle.rules.specs.Labels.{each, sameNames, declared, earlier, later, latestDeclaration, pending, validTarget, jumpsOver, repeated, used}
+use Rattle.rules.specs.Labels.{declaredAt, unused}
 use Rattle.rules.specs.Law.{Label, DeclaredOnce, Named, LawfulTarget, LawfulLabel, Lawful, lawful-break, lawful-continue, lawful-goto, AllLawful}
 use Rattle.rules.proofs.Test.{case-of, case-found, clash}
 use Rattle.rules.proofs.Order.{rank-same, rank-above, rank-within}
@@ -37,41 +24,13 @@ use Rattle.rules.proofs.Each.{append-none, each-none, only-none}
 use Rattle.rules.proofs.ClassTests.{by-branch, by-break, break-branch}
 use Rattle.rules.proofs.RowNames.{same-sym, same-own, bytes-same, name-within, labeled-named}
 use Rattle.rules.proofs.LabelRows.{label-is, is-label, label-labels, labels-label, is-declared, declared-first, some-declared}
-use Rattle.rules.proofs.GotoRows.{
-  in-list,
-  is-earlier,
-  later-parts,
-  is-later,
-  later-first,
-  none-later,
-  Declares,
-  latest-last,
-  latest-none,
-  pending-is,
-  resolved,
-}
+use Rattle.rules.proofs.GotoRows.{in-list, is-earlier, later-parts, is-later, later-first, none-later, Declares, latest-last, latest-none}
+use Rattle.rules.proofs.GotoRows.{pending-is, resolved}
 use Rattle.rules.proofs.BreakRows.{labelled-is, other-labelled, is-valid}
 use Rattle.rules.proofs.BindingRows.{branch-label, bound}
-use Rattle.rules.proofs.SheetRows.{
-  isOver,
-  over-is,
-  jumps-some,
-  repeated-is,
-  report-label,
-  report-break,
-  report-continue,
-  report-fallthrough,
-  unresolved-declared,
-  unresolved-none,
-  uses-cases,
-  is-used,
-  ranked-is,
-  is-ranked,
-  is-declared-at,
-  declared-at-none,
-  unused-is,
-  NoFault,
-}
+use Rattle.rules.proofs.SheetRows.{isOver, over-is, jumps-some, repeated-is, report-label, report-break, report-continue, report-fallthrough}
+use Rattle.rules.proofs.SheetRows.{unresolved-declared, unresolved-none, uses-cases, is-used, ranked-is, is-ranked, is-declared-at, declared-at-none}
+use Rattle.rules.proofs.SheetRows.{unused-is, NoFault}
 
 module _ (w p b : List ℕ) (body : Body w p b) (clean : NoFault w p b) where
   -- ---- no 1 to 3 at a label

@@ -12,57 +12,15 @@ use lib.Dec.{ltb}
 use borrow.Author.Tests.{ltb-true, ltb-false}
 use Rattle.rules.specs.Scan.{lowest}
 use Rattle.rules.specs.Rows.{rowCount, size, end, here, later, Child}
-use Rattle.rules.specs.Class.{
-  Class,
-  plain,
-  declaration,
-  empty,
-  labeled,
-  stop,
-  break,
-  continue,
-  goto,
-  fallthrough,
-  block,
-  caseBlock,
-  commBlock,
-  if,
-  ifElse,
-  case,
-  defaultCase,
-  comm,
-  defaultComm,
-  switch,
-  typeSwitch,
-  select,
-  for,
-  forCond,
-  oneOf,
-  isSwitch,
-  class,
-}
+use Rattle.rules.specs.Class.{Class, plain, declaration, empty, labeled, stop, break, continue, goto, fallthrough, block, caseBlock, commBlock, if}
+use Rattle.rules.specs.Class.{ifElse, case, defaultCase, comm, defaultComm, switch, typeSwitch, select, for, forCond, oneOf, isSwitch, class}
 use Rattle.rules.specs.Refusals.{holding, body as one}
 use Rattle.rules.specs.Body.{Body, fits}
 use Rattle.rules.specs.Scope.{isList, nextCase}
 use Rattle.rules.specs.Placing.{placing}
 use Rattle.rules.specs.Verdict.{hasDefault}
-use Rattle.rules.specs.Runner.{
-  State,
-  at,
-  stopped,
-  pick,
-  itemAt,
-  itemCount,
-  clauseCount,
-  after,
-  breakTo,
-  continueTo,
-  gotoTo,
-  choicesAs,
-  enter,
-  clause,
-  stepAs,
-}
+use Rattle.rules.specs.Runner.{State, at, stopped, pick, itemAt, itemCount, clauseCount, after, breakTo, continueTo, gotoTo, choicesAs, enter, clause}
+use Rattle.rules.specs.Runner.{stepAs}
 use Rattle.rules.specs.Law.{AllLawful}
 use Rattle.rules.proofs.Test.{case-of, clash}
 use Rattle.rules.proofs.Every.{every}

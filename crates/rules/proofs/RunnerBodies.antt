@@ -17,28 +17,8 @@ use Rattle.rules.specs.Placing.{placing}
 use Rattle.rules.specs.Verdict.{verdict}
 use Rattle.rules.specs.Runner.{State, at, stopped, brace, choices, step, Walk, done, go, Route}
 use Rattle.rules.specs.Law.{Safe}
-use Rattle.rules.specs.Bodies.{
-  pairs,
-  bytes,
-  body2,
-  body7,
-  body9,
-  body10,
-  body12,
-  breakFromSwitch,
-  gotoAndBack,
-  fallIntoDefault,
-  selectInLoop,
-  pastSwitch,
-  switchGoesOn,
-  continueOuter,
-  emptyDefault,
-  breakOfTwo,
-  continueOfTwo,
-  emptyIf,
-  gotoNowhere,
-  forAlone,
-}
+use Rattle.rules.specs.Bodies.{pairs, bytes, body2, body7, body9, body10, body12, breakFromSwitch, gotoAndBack, fallIntoDefault, selectInLoop}
+use Rattle.rules.specs.Bodies.{pastSwitch, switchGoesOn, continueOuter, emptyDefault, breakOfTwo, continueOfTwo, emptyIf, gotoNowhere, forAlone}
 use Rattle.rules.proofs.Computed.{computed}
 use Rattle.rules.proofs.Test.{clash, and-true}
 use Rattle.rules.proofs.Steps.{OneWay, goto-binding}

@@ -13,29 +13,8 @@ use Rattle.rules.specs.Rows.{rowCount, position, name}
 use Rattle.rules.specs.Class.{break, continue, fallthrough, isBranch, class}
 use Rattle.rules.specs.Names.{pairCount, rank}
 use Rattle.rules.specs.Scope.{inListOf}
-use Rattle.rules.specs.Labels.{
-  each,
-  only,
-  is,
-  isClass,
-  fault,
-  isLabel,
-  labels,
-  declared,
-  latestDeclaration,
-  pending,
-  validTarget,
-  labelledBreak,
-  binding,
-  jumpsOver,
-  repeated,
-  report,
-  unresolved,
-  used,
-  declaredAt,
-  unused,
-  sheet,
-}
+use Rattle.rules.specs.Labels.{each, only, is, isClass, fault, isLabel, labels, declared, latestDeclaration, pending, validTarget, labelledBreak}
+use Rattle.rules.specs.Labels.{binding, jumpsOver, repeated, report, unresolved, used, declaredAt, unused, sheet}
 use Rattle.rules.proofs.Test.{case-of, case-found, clash, and-true, or-true}
 use Rattle.rules.proofs.Scan.{lowest-none, none-lowest, lowest-found}
 use Rattle.rules.proofs.Each.{append-none, each-none, none-each}

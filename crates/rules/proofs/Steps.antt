@@ -15,71 +15,14 @@ use Rattle.rules.specs.Scan.{lowest}
 use Rattle.rules.specs.Rows.{rowCount, kind, detail, name, size, end, parent, Item, here, later, Child}
 use Rattle.rules.specs.Body.{Sized, OneChild, Body}
 use Rattle.rules.specs.Refusals.{holding, body}
-use Rattle.rules.specs.Class.{
-  Class,
-  plain,
-  declaration,
-  empty,
-  labeled,
-  stop,
-  break,
-  continue,
-  goto,
-  fallthrough,
-  block,
-  caseBlock,
-  commBlock,
-  if,
-  ifElse,
-  case,
-  defaultCase,
-  comm,
-  defaultComm,
-  switch,
-  typeSwitch,
-  select,
-  for,
-  forCond,
-  code,
-  oneOf,
-  isSwitch,
-  isLoop,
-  isCase,
-  detailAllowed,
-  classOf,
-  base,
-  following,
-  class,
-}
+use Rattle.rules.specs.Class.{Class, plain, declaration, empty, labeled, stop, break, continue, goto, fallthrough, block, caseBlock, commBlock, if}
+use Rattle.rules.specs.Class.{ifElse, case, defaultCase, comm, defaultComm, switch, typeSwitch, select, for, forCond, code, oneOf, isSwitch, isLoop}
+use Rattle.rules.specs.Class.{isCase, detailAllowed, classOf, base, following, class}
 use Rattle.rules.specs.Scope.{isList, around, innermost, listOf, inListOf, nextCase}
 use Rattle.rules.specs.Labels.{word, labels, gotoLabel, binding}
 use Rattle.rules.specs.Verdict.{labelOn, refersTo, anyDefault, hasDefault}
-use Rattle.rules.specs.Runner.{
-  State,
-  at,
-  stopped,
-  brace,
-  climb,
-  after,
-  onward,
-  next,
-  up,
-  itemAt,
-  itemCount,
-  clauseCount,
-  breakTo,
-  continueTo,
-  gotoTo,
-  choicesAs,
-  enter,
-  clause,
-  stepAs,
-  choices,
-  step,
-  Walk,
-  go,
-  Route,
-}
+use Rattle.rules.specs.Runner.{State, at, stopped, brace, climb, after, onward, next, up, itemAt, itemCount, clauseCount, breakTo, continueTo, gotoTo}
+use Rattle.rules.specs.Runner.{choicesAs, enter, clause, stepAs, choices, step, Walk, go, Route}
 use Rattle.rules.proofs.Test.{case-of, case-found, clash, or-true, or-false, and-true}
 use Rattle.rules.proofs.Scan.{highest-found, highest-last, highest-none}
 use Rattle.rules.proofs.Every.{every, same, same-eq, of-classes, is-class}

@@ -10,49 +10,12 @@ use lib.Dec.{ltb, eqb}
 use borrow.Author.Tests.{ltb-true, eqb-true, lt-ltb, le-ltb, eq-eqb, ne-eqb}
 use Rattle.rules.specs.Scan.{lowest}
 use Rattle.rules.specs.Rows.{name, size, end}
-use Rattle.rules.specs.Class.{
-  Class,
-  plain,
-  declaration,
-  empty,
-  labeled,
-  stop,
-  break,
-  continue,
-  goto,
-  fallthrough,
-  block,
-  caseBlock,
-  commBlock,
-  if,
-  ifElse,
-  case,
-  defaultCase,
-  comm,
-  defaultComm,
-  switch,
-  typeSwitch,
-  select,
-  for,
-  forCond,
-  oneOf,
-  isSwitch,
-  isBreakable,
-  class,
-}
+use Rattle.rules.specs.Class.{Class, plain, declaration, empty, labeled, stop, break, continue, goto, fallthrough, block, caseBlock, commBlock, if}
+use Rattle.rules.specs.Class.{ifElse, case, defaultCase, comm, defaultComm, switch, typeSwitch, select, for, forCond, oneOf, isSwitch, isBreakable}
+use Rattle.rules.specs.Class.{class}
 use Rattle.rules.specs.Scope.{isList, around, innermost, onlyEmpty}
 use Rattle.rules.specs.Labels.{is, isClass, sameNames}
-use Rattle.rules.specs.Verdict.{
-  anyDefault,
-  hasDefault,
-  labelOn,
-  refersTo,
-  hasBreak,
-  terminating,
-  terminatingList,
-  terminatingClauses,
-  verdict,
-}
+use Rattle.rules.specs.Verdict.{anyDefault, hasDefault, labelOn, refersTo, hasBreak, terminating, terminatingList, terminatingClauses, verdict}
 use Rattle.rules.proofs.Every.{is-one}
 use Rattle.rules.proofs.Test.{case-found, clash, and-true}
 use Rattle.rules.proofs.Scan.{lowest-none, lowest-found}

@@ -10,36 +10,8 @@ use Rattle.rules.specs.Refusals.{refusal}
 use Rattle.rules.specs.Labels.{Fault, fault, sheet, bindings}
 use Rattle.rules.specs.Placing.{placing}
 use Rattle.rules.specs.Verdict.{verdict}
-use Rattle.rules.specs.Bodies.{
-  Entry,
-  entry,
-  rowWords,
-  pairs,
-  bytes,
-  L,
-  M,
-  blank,
-  Empty,
-  Labeled,
-  Expr,
-  Define,
-  Return,
-  Break,
-  Continue,
-  Goto,
-  Fallthrough,
-  Block,
-  If,
-  IfElse,
-  Case,
-  Default,
-  Switch,
-  Comm,
-  DefaultComm,
-  Select,
-  For,
-  ForCond,
-}
+use Rattle.rules.specs.Bodies.{Entry, entry, rowWords, pairs, bytes, L, M, blank, Empty, Labeled, Expr, Define, Return, Break, Continue, Goto}
+use Rattle.rules.specs.Bodies.{Fallthrough, Block, If, IfElse, Case, Default, Switch, Comm, DefaultComm, Select, For, ForCond}
 use Rattle.rules.proofs.Computed.{computed}
 
 -- well-formed, with these codes on the sheet and this verdict

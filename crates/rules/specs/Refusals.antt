@@ -10,40 +10,9 @@ use lib.Dec.{ltb, leb, eqb}
 use lib.ListN.{length}
 use Rattle.rules.specs.Scan.{lowest}
 use Rattle.rules.specs.Rows.{rowCount, kind, detail, position, name, size, end, depth}
-use Rattle.rules.specs.Class.{
-  Class,
-  plain,
-  declaration,
-  empty,
-  labeled,
-  stop,
-  break,
-  continue,
-  goto,
-  fallthrough,
-  block,
-  caseBlock,
-  commBlock,
-  if,
-  ifElse,
-  case,
-  defaultCase,
-  comm,
-  defaultComm,
-  switch,
-  typeSwitch,
-  select,
-  for,
-  forCond,
-  oneOf,
-  isBranch,
-  isCase,
-  isComm,
-  isStatement,
-  detailAllowed,
-  base,
-  class,
-}
+use Rattle.rules.specs.Class.{Class, plain, declaration, empty, labeled, stop, break, continue, goto, fallthrough, block, caseBlock, commBlock, if}
+use Rattle.rules.specs.Class.{ifElse, case, defaultCase, comm, defaultComm, switch, typeSwitch, select, for, forCond, oneOf, isBranch, isCase, isComm}
+use Rattle.rules.specs.Class.{isStatement, detailAllowed, base, class}
 use Rattle.rules.specs.Names.{pairCount, badNameWords, badPair}
 
 -- ---- 1: row words empty, not a multiple of 5, or over 2,000 rows

@@ -8,34 +8,8 @@ use Prim.Native.Nat.{ℕ, zero, suc, _<_}
 use lib.Dec.{ltb, eqb}
 use Rattle.rules.specs.Scan.{highest}
 use Rattle.rules.specs.Rows.{name, size, end}
-use Rattle.rules.specs.Class.{
-  Class,
-  plain,
-  declaration,
-  empty,
-  labeled,
-  stop,
-  break,
-  continue,
-  goto,
-  fallthrough,
-  block,
-  caseBlock,
-  commBlock,
-  if,
-  ifElse,
-  case,
-  defaultCase,
-  comm,
-  defaultComm,
-  switch,
-  typeSwitch,
-  select,
-  for,
-  forCond,
-  isLoop,
-  class,
-}
+use Rattle.rules.specs.Class.{Class, plain, declaration, empty, labeled, stop, break, continue, goto, fallthrough, block, caseBlock, commBlock, if}
+use Rattle.rules.specs.Class.{ifElse, case, defaultCase, comm, defaultComm, switch, typeSwitch, select, for, forCond, isLoop, class}
 use Rattle.rules.specs.Scope.{isList, around, innermost, nextCase}
 use Rattle.rules.specs.Labels.{gotoLabel}
 use Rattle.rules.specs.Verdict.{labelOn, refersTo, hasDefault}

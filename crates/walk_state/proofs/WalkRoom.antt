@@ -24,21 +24,8 @@ use Rattle.rules.proofs.Found.{found-is}
 use Rattle.rules.proofs.LabelRows.{other-label}
 use Rattle.rules.proofs.GotoRows.{parts-later, pending-is, is-pending}
 use Rattle.rules.proofs.BreakRows.{is-labelled, other-labelled}
-use Rattle.rules.proofs.SheetRows.{
-  isOver,
-  is-over,
-  jumps-none,
-  jumps-some,
-  repeated-none,
-  repeated-not,
-  repeated-is,
-  report-label,
-  report-valid,
-  report-break,
-  report-continue,
-  report-fallthrough,
-  report-other,
-}
+use Rattle.rules.proofs.SheetRows.{isOver, is-over, jumps-none, jumps-some, repeated-none, repeated-not, repeated-is, report-label, report-valid}
+use Rattle.rules.proofs.SheetRows.{report-break, report-continue, report-fallthrough, report-other}
 use Rattle.walk_state.specs.Walk.{faultsAt}
 use Rattle.walk_state.proofs.WalkFaults.{faults-zero, faults-suc}
 use Rattle.walk_state.proofs.WalkBindings.{later-kept, not-later}

@@ -5,19 +5,8 @@ use mathlib.Core.Logic.{inl, inr}
 use native.Mathlib.Omega.{arith}
 use borrow.Author.Needs.{needs}
 use Rattle.walk_state.proofs.TableRows.{canon-place}
-use Rattle.jumps.proofs.ListClimb.{
-  Climbing,
-  climb-start,
-  no-name,
-  climb-none,
-  climb-in,
-  climb-less,
-  climb-plain,
-  climb-unlabelled,
-  label-in,
-  climb-other,
-  climb-found,
-}
+use Rattle.jumps.proofs.ListClimb.{Climbing, climb-start, no-name, climb-none, climb-in, climb-less, climb-plain, climb-unlabelled, label-in}
+use Rattle.jumps.proofs.ListClimb.{climb-other, climb-found}
 use Rattle.jumps.proofs.enclosing_target.Statement.{statement}
 use Rattle.jumps.proofs.enclosing_target.Tie as tie
 

@@ -2,18 +2,8 @@
 -- Assumes nothing.
 use native.Mathlib.Omega.{arith}
 use borrow.Author.Needs.{needs}
-use Rattle.walk_state.proofs.TableRows.{
-  canon-place,
-  declared-place,
-  no-canon,
-  no-declared,
-  label-after,
-  no-list,
-  list-in,
-  list-small,
-  list-ended,
-  list-around,
-}
+use Rattle.walk_state.proofs.TableRows.{canon-place, declared-place, no-canon, no-declared, label-after, no-list, list-in, list-small, list-ended}
+use Rattle.walk_state.proofs.TableRows.{list-around}
 use Rattle.jumps.proofs.goto_target.Statement.{statement}
 use Rattle.jumps.proofs.goto_target.Tie as tie
 

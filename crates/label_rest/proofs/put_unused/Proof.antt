@@ -4,18 +4,8 @@ use Prim.Native.Nat.{_-_}
 use native.Mathlib.Omega.{arith}
 use lib.ListN.{length}
 use borrow.Author.Needs.{needs}
-use Rattle.label_rest.proofs.UnusedRows.{
-  Nines,
-  AtName,
-  nines-start,
-  nines-all,
-  name-within-table,
-  some-word,
-  label-row,
-  fault-fits,
-  fault-small,
-  turn,
-}
+use Rattle.label_rest.proofs.UnusedRows.{Nines, AtName, nines-start, nines-all, name-within-table, some-word, label-row, fault-fits, fault-small}
+use Rattle.label_rest.proofs.UnusedRows.{turn}
 use Rattle.label_rest.proofs.put_unused.Statement.{statement}
 use Rattle.label_rest.proofs.put_unused.Tie as tie
 

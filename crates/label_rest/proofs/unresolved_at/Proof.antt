@@ -6,21 +6,8 @@ use mathlib.Core.Logic.{⊎-elim}
 use native.Mathlib.Omega.{arith}
 use borrow.Author.Needs.{needs}
 use Rattle.rules.specs.Rows.{detail}
-use Rattle.label_rest.proofs.LeftRows.{
-  canon-fits,
-  canon-small,
-  count-small,
-  AtBranch,
-  used-fits,
-  declared-fits,
-  sheet-fits,
-  over-bound,
-  over-repeated,
-  over-unbound,
-  over-declared,
-  over-blank,
-  over-undeclared,
-}
+use Rattle.label_rest.proofs.LeftRows.{canon-fits, canon-small, count-small, AtBranch, used-fits, declared-fits, sheet-fits, over-bound}
+use Rattle.label_rest.proofs.LeftRows.{over-repeated, over-unbound, over-declared, over-blank, over-undeclared}
 use Rattle.label_rest.proofs.unresolved_at.Statement.{statement}
 use Rattle.label_rest.proofs.unresolved_at.Tie as tie
 

@@ -11,27 +11,9 @@ use Rattle.rules.specs.Rows.{size}
 use Rattle.returns.specs.Search.{Lasts}
 use Rattle.returns.proofs.ByClass.{list-empty, last-answer}
 use Rattle.returns.proofs.Calls.{one-row-empties, last-call}
-use Rattle.returns.proofs.RowRule.{
-  Known,
-  expr-answer,
-  return-answer,
-  branch-answer,
-  other-answer,
-  labeled-call,
-  labeled-answer,
-  below,
-  list-call,
-  list-answer,
-  if-answer,
-  then-call,
-  else-call,
-  first-no,
-  both-parts,
-  switch-call,
-  select-call,
-  for-answer,
-  loop-answer,
-}
+use Rattle.returns.proofs.RowRule.{Known, expr-answer, return-answer, branch-answer, other-answer, labeled-call, labeled-answer, below, list-call}
+use Rattle.returns.proofs.RowRule.{list-answer, if-answer, then-call, else-call, first-no, both-parts, switch-call, select-call, for-answer}
+use Rattle.returns.proofs.RowRule.{loop-answer}
 use Rattle.returns.proofs.SwitchRule.{Opened, Walk, begin, ended, clause-row, default-here, default-before, clause-call, is-open, is-left, next}
 use borrow.Fn.Kinds.{In}
 use borrow.Fn.PlainCycle.{Measures, is, falls, and}
@@ -50,12 +32,8 @@ use Rattle.rows.proofs.detail.Reads as detail-reads
 use Rattle.rows.proofs.kind.Reads as kind-reads
 use Rattle.rows.proofs.name.Reads as name-reads
 use Rattle.rows.proofs.size.Reads as size-reads
-use Rattle.returns.proofs.+is_terminating+is_terminating_list+is_terminating_switch.{
-  statement,
-}
-use Rattle.returns.proofs.+is_terminating+is_terminating_list+is_terminating_switch.Tie.{
-  close,
-}
+use Rattle.returns.proofs.+is_terminating+is_terminating_list+is_terminating_switch.{statement}
+use Rattle.returns.proofs.+is_terminating+is_terminating_list+is_terminating_switch.Tie.{close}
 
 abbrev μ-is-terminating : Measures 3 is-terminating-kinds.ps ℕ
 μ-is-terminating κs a = 2 * size (a .0 .now) (a .1 .1 .1 .0 .0)
