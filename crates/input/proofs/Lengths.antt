@@ -80,4 +80,4 @@ three-reads = (refl, refl)
 
 -- the same by the law
 three-read : lengthOf 0 (read 3 3 ∷ read 4 4 ∷ read 2 4 ∷ read 4 4 ∷ []) ≡ 9
-three-read = all-read (read 3 3 ∷ read 4 4 ∷ []) (read 4 4 ∷ []) (read 2 4) 0 (refl, refl, tt) (omega arith) (omega arith)
+three-read = all-read (read 3 3 ∷ read 4 4 ∷ []) (read 4 4 ∷ []) (read 2 4) 0 (refl, (refl, tt)) (omega arith) (omega arith)
