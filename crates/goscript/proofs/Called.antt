@@ -8,6 +8,7 @@ use Prim.Native.Nat.{ℕ}
 use lib.ListN.{length}
 use Rattle.rules.specs.Refusals.{WellFormed}
 use Rattle.rules.specs.Calls.{answered, tooShort, faultWords, written, labelCall, verdictCall}
+use Rattle.rules.proofs.LabelCall.{label-written}
 use Rattle.goscript.specs.Build.{Build, stock, mendedBuild}
 use Rattle.goscript.specs.Label.{sheet, bindings}
 use Rattle.goscript.specs.Returns.{verdict}
@@ -28,8 +29,7 @@ module _ (w p b : List ℕ) (f : WellFormed w p b) where
         }
 
     gives-labels : (build : Build) → SameLabels build w p b → GivesLabels build
-    unfolding labelCall
-    gives-labels build (e, i) = rw (f, n, e, i, labelCall)
+    gives-labels build (e, i) = rw (e, i) (label-written w p b s t f n)
 
     pub called-labels : GivesLabels mendedBuild
     called-labels = gives-labels mendedBuild (mended-law w p b f .0)

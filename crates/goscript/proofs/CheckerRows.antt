@@ -2,7 +2,7 @@
 -- changes, since only a label is placed in the scope, has a definition, or resolves a goto before it.
 -- Assumes nothing.
 use mathlib.Core.Path.{_≡_, sym, _∙_, ap, subst}
-use mathlib.Core.Bool.{Bool, true, false, _&&_}
+use mathlib.Core.Bool.{true, false, _&&_}
 use mathlib.Core.Logic.{inl, inr}
 use mathlib.Core.List.{List, [], _∷_, _++_, append-nil}
 use mathlib.Core.Option.{none, some}
@@ -13,16 +13,14 @@ use lib.Dec.{ltb}
 use borrow.Author.Tests.{lt-ltb, le-ltb}
 use Rattle.rules.specs.Rows.{rowCount, name}
 use Rattle.rules.specs.Class.{Class, break, continue, goto, fallthrough, oneOf, isBranch, class}
-use Rattle.rules.specs.Scope.{around}
 use Rattle.rules.specs.Body.{Body}
-use Rattle.rules.specs.Labels.{Fault, fault, is, word, isLabel, labels, declared, earlier, lastInRun, inBlockOf, target, labelledBreak, validTarget, report}
-use Rattle.rules.proofs.Test.{case-found, clash, and-true}
-use Rattle.rules.proofs.Scan.{highest-found}
+use Rattle.rules.specs.Labels.{Fault, fault, is, word, isLabel, declared, earlier, labelledBreak, validTarget, report}
+use Rattle.rules.proofs.Test.{case-found, clash}
 use Rattle.rules.proofs.ClassTests.{by-break, break-branch, branch-goto, branch-fallthrough}
 use Rattle.rules.proofs.RowNames.{goto-named}
 use Rattle.rules.proofs.LabelRows.{some-declared}
 use Rattle.rules.proofs.GotoRows.{is-earlier}
-use Rattle.rules.proofs.BreakRows.{is-valid, labelled-is, not-labelled, other-labelled}
+use Rattle.rules.proofs.BreakRows.{is-target, is-valid, labelled-is, not-labelled, other-labelled}
 use Rattle.rules.proofs.BindingRows.{branch-label, binding-break, binding-invalid, binding-other}
 use Rattle.rules.proofs.SheetRows.{report-valid, report-break, report-continue, report-fallthrough, report-other}
 use Rattle.walk_state.specs.Walk.{bindingAt}
@@ -46,15 +44,6 @@ error-none c = ap (with-errors c) (append-nil (c .errors))
 -- the code of a break or continue whose target is not valid
 abbrev pub breakCode : Class → ℕ
 breakCode k = elim (oneOf (break ∷ []) k) [ true ↦ 4 | false ↦ 5 ]
-
--- the target of a branch has its name and stands before it
-target-names : (w p b : List ℕ) (x t : ℕ) → target w p b x ≡ some t → (t < x) × (labels w p b x t ≡ true)
-unfolding target
-target-names w p b x t e =
-    let names : ℕ → Bool = λ t. labels w p b x t && (lastInRun w p b t && inBlockOf w p b t x) in
-    let f = highest-found (λ t. around w x t && names t) x t e in
-    let a = and-true (around w x t) (names t) (f .1) in
-    (f .0, and-true (labels w p b x t) (lastInRun w p b t && inBlockOf w p b t x) (a .1) .0)
 
 module _ {w p b : List ℕ} (body : Body w p b) where
   -- ---- a row that is no label
@@ -185,8 +174,9 @@ module _ {w p b : List ℕ} (body : Body w p b) where
             → CheckerAt w p b (suc x) (recordLabelUse w p b x s .checker)
         break-valid s v y =
             let (t, f, u) = is-valid w p b x v in
-            let (h, l) = target-names w p b x t f in
-            let (d, i, m) = some-declared w p b x t (omega arith) l in
+            let a = is-target w p b x t f in
+            let before = a .before in
+            let (d, i, m) = some-declared w p b x t (omega arith) (a .names) in
             use-recorded s d i (omega arith) (break-branch (class w x) break-class) (report-valid w p b x break-label has-label v)
             (at-other w p b (suc x) x break-goto ∙ binding-break w p b x break-label break-goto has-label v ∙ ap word i) y
 

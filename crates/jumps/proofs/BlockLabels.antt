@@ -18,16 +18,17 @@ use Rattle.rules.specs.Scan.{lowest, highest}
 use Rattle.rules.specs.Rows.{rowCount, end, Child}
 use Rattle.rules.specs.Class.{Class, labeled, oneOf, class}
 use Rattle.rules.specs.Body.{Body, fits}
-use Rattle.rules.specs.Scope.{isList, isBlock, around, innermost, listOf}
+use Rattle.rules.specs.Scope.{isList, isBlock, innermost, listOf}
 use Rattle.rules.specs.Labels.{isSome, isClass, isLabel, labels, lastInRun, inBlockOf, target}
 use Rattle.rules.proofs.Test.{case-of, case-found, clash, and-true, or-true}
 use Rattle.rules.proofs.Every.{every, is-one}
-use Rattle.rules.proofs.Scan.{lowest-found, lowest-first, lowest-none, found-lowest, none-lowest, highest-found, highest-last, found-highest, none-highest}
+use Rattle.rules.proofs.Scan.{lowest-found, lowest-first, lowest-none, found-lowest, none-lowest, highest-found, highest-last, found-highest}
 use Rattle.rules.proofs.ClassTests.{one-is, one-not}
 use Rattle.rules.proofs.ClassRules.{isClauseBlock, class-rule, child-rule, parent-rule}
 use Rattle.rules.proofs.Nesting.{item-before, item-from, child-around, ends-before}
-use Rattle.rules.proofs.Around.{around-true, true-around, Innermost, innermost-found, innermost-last, innermost-none}
+use Rattle.rules.proofs.Around.{Innermost, innermost-found, innermost-last, innermost-none}
 use Rattle.rules.proofs.LabelRows.{is-labels}
+use Rattle.rules.proofs.BreakRows.{Target, is-target, target-is, none-target}
 use Rattle.walk_state.specs.Walk.{currentLabel}
 use Rattle.tables.specs.Canon.{rowCanon}
 use Rattle.tables.proofs.Labelling.{label-class, labels-canon}
@@ -391,66 +392,45 @@ module _ {w p b : List ℕ} (body : Body w p b) where
 
   -- ---- the target
   module _ (g : ℕ) (row : g < rowCount w) where
-    abbrev aims : ℕ → Bool
-    aims t = around w g t && (labels w p b g t && (lastInRun w p b t && inBlockOf w p b t g))
-
-    aims-is : (t : ℕ) → Encloses g t → labels w p b g t ≡ true → aims t ≡ true
-    aims-is t x u = rw (true-around w g t (x .inside), u, x .last, x .in-block)
-
-    is-aims : (t : ℕ) → t < g → aims t ≡ true → Encloses g t × (labels w p b g t ≡ true)
-    is-aims t h u =
-        let a = and-true (around w g t) (labels w p b g t && (lastInRun w p b t && inBlockOf w p b t g)) u in
-        let c = and-true (labels w p b g t) (lastInRun w p b t && inBlockOf w p b t g) (a .1) in
-        let d = and-true (lastInRun w p b t) (inBlockOf w p b t g) (c .1) in (
-          record {
-            before = h;
-            inside = around-true w g t (a .0);
-            labeled-row = is-labels w p b g t (c .0) .0;
-            last = d .0;
-            in-block = d .1;
-          },
-          c .0,
-        )
+    encloses : (t : ℕ) → Target w p b g t → Encloses g t
+    encloses t x = record {
+      before = x .before;
+      inside = x .reaches;
+      labeled-row = is-labels w p b g t (x .names) .0;
+      last = x .last;
+      in-block = x .in-block;
+    }
 
     pub target-none : ((k t : ℕ) → BlockAround w g k → currentLabel w p b k ≡ some t → labels w p b g t ≡ true → ⊥) → target w p b g ≡ none
-    unfolding target
-    target-none never = none-highest aims g (λ t h. case-of (aims t)
-        (λ u.
-        let x = is-aims t h u in
-        let (k, a, e) = block-of g t row (x .0) in
-        absurd (never k t a e (x .1)))
-        (λ f. f))
+    target-none never = none-target w p b g (λ t x.
+        let (k, a, e) = block-of g t row (encloses t x) in
+        never k t a e (x .names))
 
     pub target-found : (k t : ℕ) → BlockAround w g k → currentLabel w p b k ≡ some t → labels w p b g t ≡ true
         → ((j s : ℕ) → k < j → BlockAround w g j → currentLabel w p b j ≡ some s → labels w p b g s ≡ true → ⊥) → target w p b g ≡ some t
-    unfolding target
     target-found k t a e u never =
         let x = of-block g k t row a e in
         let before = a .before in
-        found-highest aims g t (x .before) (aims-is t x u)
-        (λ s h m. case-of (aims s)
-        (λ v.
-        let y = is-aims s m v in
-        let (j, c, f) = block-of g s row (y .0) in
+        target-is w p b g t (record { before = x .before; reaches = x .inside; names = u; last = x .last; in-block = x .in-block })
+        (λ s h y.
+        let (j, c, f) = block-of g s row (encloses s y) in
         let s-before = is-current w p b j s f .1 .before in
         let j-before = c .before in
         let j-reaches = c .reaches in
         elim (decLt k j) [
-          | yes l ↦ absurd (never j s l c f (y .1))
+          | yes l ↦ never j s l c f (y .names)
           | no n ↦ elim (ℕ-discrete j k) [
-            | yes i ↦ let z : currentLabel w p b k ≡ some s = rw i at f in let i : s ≡ t = cc in absurd (omega arith)
-            | no o ↦ absurd (outer-block k j t (omega arith) (a .blocks) e (c .blocks) (omega arith) (omega arith) (omega arith))
+            | yes i ↦ let z : currentLabel w p b k ≡ some s = rw i at f in let i : s ≡ t = cc in omega arith
+            | no o ↦ outer-block k j t (omega arith) (a .blocks) e (c .blocks) (omega arith) (omega arith) (omega arith)
           ]
         ])
-        (λ f. f))
 
     -- its row is a label around the branch
     pub target-label : (t : ℕ) → target w p b g ≡ some t → Encloses g t
-    unfolding target
-    target-label t e = let f = highest-found aims g t e in is-aims t (f .0) (f .1) .0
+    target-label t e = encloses t (is-target w p b g t e)
 
     pub target-named : (t : ℕ) → target w p b g ≡ some t → 0 < rowCanon w p b g
-    unfolding target
     target-named t e =
-        let f = highest-found aims g t e in
-        labels-canon body g t row (omega (arith, f .0)) (is-aims t (f .0) (f .1) .1) .2
+        let x = is-target w p b g t e in
+        let before = x .before in
+        labels-canon body g t row (omega arith) (x .names) .2

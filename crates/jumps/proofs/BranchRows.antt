@@ -14,10 +14,9 @@ use Rattle.rules.specs.Class.{break, continue, goto, fallthrough, oneOf, isBran
 use Rattle.rules.specs.Body.{Body}
 use Rattle.rules.specs.Labels.{needs, target, validTarget, word}
 use Rattle.rules.proofs.Test.{case-found, clash}
-use Rattle.rules.proofs.ByKind.{kind-jump}
 use Rattle.rules.proofs.Classes.{no-block}
 use Rattle.rules.proofs.ClassTests.{break-branch}
-use Rattle.rules.proofs.Lists.{own-branch, own-breakable, own-loop, by-words}
+use Rattle.rules.proofs.Lists.{branch-kind, own-breakable, own-loop, by-words}
 use Rattle.rules.proofs.Found.{word-found}
 use Rattle.rules.proofs.BreakRows.{valid-found, valid-none}
 use Rattle.tables.proofs.Labelling.{label-class}
@@ -25,20 +24,19 @@ use Rattle.jumps.proofs.BlockLabels.{target-label}
 
 -- ---- the detail
 module _ (w : List ℕ) (r : ℕ) (a : detailAllowed (kind w r) (detail w r) ≡ true) (t : isBranch (class w r) ≡ true) where
-  branch-kind : kind w r ≡ 11
-  unfolding base
-  branch-kind = eqb-true (kind w r) 11 (kind-jump (kind w r) (detail w r) a ∙ sym (own-branch w r) ∙ t)
+  is-11 : kind w r ≡ 11
+  is-11 = eqb-true (kind w r) 11 (branch-kind w r a ∙ t)
 
   branch-class : class w r ≡ classOf 11 (detail w r)
   unfolding base
   branch-class =
-      let e : eqb (kind w r) 12 ≡ false = ne-eqb (kind w r) 12 (λ i. omega (arith, branch-kind)) in
-      no-block w r a e ∙ ap (λ (k : ℕ). classOf k (detail w r)) branch-kind
+      let e : eqb (kind w r) 12 ≡ false = ne-eqb (kind w r) 12 (λ i. omega (arith, is-11)) in
+      no-block w r a e ∙ ap (λ (k : ℕ). classOf k (detail w r)) is-11
 
   pub detail-below : detail w r < 4
   unfolding detailAllowed
   detail-below =
-      let e : detailAllowed 11 (detail w r) ≡ true = rw branch-kind at a in
+      let e : detailAllowed 11 (detail w r) ≡ true = rw is-11 at a in
       ltb-true (detail w r) 4 e
 
   pub detail-break : detail w r ≡ 0 → class w r ≡ break

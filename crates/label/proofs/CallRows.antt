@@ -19,14 +19,16 @@ use Rattle.rules.specs.Labels.{Fault, each, isClass, word, binding, unresolved,
 use Rattle.rules.specs.Calls.{Answer, refused, answered, faultWords, written, tooShort, labelCall}
 use Rattle.rules.proofs.Test.{case-of, clash}
 use Rattle.rules.proofs.Lent.{short-sheet, short-bindings, room, is-written}
+use Rattle.rules.proofs.LabelCall.{label-refused, label-short, label-written}
 use Rattle.rules.proofs.Scan.{none-highest}
+use Rattle.rules.proofs.Each.{each-length, each-at}
 use Rattle.rules.proofs.ClassTests.{one-is}
 use Rattle.rules.proofs.Every.{is-one}
 use Rattle.canonical.proofs.Zeros.{zeros-at}
 use Rattle.tables.specs.Canon.{CanonTable, DeclaredTable, Tables}
 use Rattle.walk_state.specs.Walk.{Walking, Walked, faultsAt, bindingAt, previousPending}
 use Rattle.walk_state.proofs.WalkFaults.{faults-zero, words-length, drop-further}
-use Rattle.walk_state.proofs.WalkBindings.{each-length, each-at, bindings-zero, are-bindings, word-before, at-other}
+use Rattle.walk_state.proofs.WalkBindings.{bindings-zero, are-bindings, word-before, at-other}
 use Rattle.walk_state.proofs.WalkPending.{waits}
 use Rattle.label_rest.specs.Rest.{Reported, AtEnd, faultsLeft}
 use Rattle.label_walk.specs.Contexts.{Contexts}
@@ -204,13 +206,11 @@ Called w p b s t a s′ t′ = (a ≡ labelCall w p b s t .answer) × ((s′ ≡
 
 module _ (w p b s t : List ℕ) where
   pub call-refused : (r : ℕ × ℕ) → some r ≡ refusal w p b → Called w p b s t (refused (r .0) (r .1)) s t
-  unfolding labelCall
-  call-refused r e = rw (← e, labelCall) (refl, (refl, refl))
+  call-refused r e = rw (label-refused w p b s t r (sym e)) (refl, (refl, refl))
 
   module _ (f : none ≡ refusal w p b) where
     call-short : tooShort w s t ≡ true → Called w p b s t (refused 7 0) s t
-    unfolding labelCall
-    call-short e = rw (← f, e, labelCall) (refl, (refl, refl))
+    call-short e = rw (label-short w p b s t (sym f) e) (refl, (refl, refl))
 
     pub call-short-sheet : length s < rowCount w * 8 → Called w p b s t (refused 7 0) s t
     call-short-sheet h = call-short (short-sheet w s t h)
@@ -220,8 +220,7 @@ module _ (w p b s t : List ℕ) where
 
     call-written : tooShort w s t ≡ false
         → Called w p b s t (answered (length (sheetOf w p b))) (written (faultWords (sheetOf w p b)) s) (written (bindingsOf w p b) t)
-    unfolding labelCall
-    call-written e = rw (← f, e, labelCall) (refl, (refl, refl))
+    call-written e = rw (label-written w p b s t (sym f) e) (refl, (refl, refl))
 
     pub call-answered : (n : ℕ) (s′ t′ : List ℕ) → rowCount w * 8 ≤ length s → rowCount w ≤ length t → Answered w p b n s t s′ t′
         → Called w p b s t (answered n) s′ t′

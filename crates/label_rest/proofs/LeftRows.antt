@@ -25,17 +25,16 @@ use Rattle.rules.proofs.Test.{case-of, case-found, clash}
 use Rattle.rules.proofs.Scan.{howMany-yes, howMany-no}
 use Rattle.rules.proofs.Every.{every, same, same-eq, is-one}
 use Rattle.rules.proofs.Details.{of-allowed}
-use Rattle.rules.proofs.ByKind.{kind-jump}
 use Rattle.rules.proofs.Classes.{no-block}
-use Rattle.rules.proofs.Lists.{own-branch}
+use Rattle.rules.proofs.Lists.{branch-kind}
 use Rattle.rules.proofs.ClassTests.{one-is, branch-goto}
 use Rattle.rules.proofs.Each.{each-zero, each-suc}
 use Rattle.rules.proofs.Found.{word-found}
 use Rattle.rules.proofs.Pairs.{name-words}
 use Rattle.rules.proofs.RowNames.{name-within}
 use Rattle.rules.proofs.LabelRows.{is-declared}
-use Rattle.rules.proofs.GotoRows.{goto-earlier, goto-later, is-pending, some-goto-label}
-use Rattle.rules.proofs.BindingRows.{branch-label, binding-goto, bound}
+use Rattle.rules.proofs.GotoRows.{goto-earlier, goto-later}
+use Rattle.rules.proofs.BindingRows.{branch-label, binding-goto, bound, waits-unbound, unbound-waits}
 use Rattle.rules.proofs.SheetRows.{unresolved-not, unresolved-declared, unresolved-none, uses, uses-binding, uses-pending, uses-cases}
 use Rattle.tables.specs.Canon.{rowCanon, declaredFor, CanonTable, DeclaredTable}
 use Rattle.walk_state.specs.Walk.{faultsAt, bindingAt}
@@ -73,15 +72,11 @@ goto-words k d a = same-eq (eqb k 11 && eqb d 2) (oneOf (goto ∷ []) (classOf k
     (of-allowed (λ k d. same (eqb k 11 && eqb d 2) (oneOf (goto ∷ []) (classOf k d))) refl k d a)
 
 module _ {w p b : List ℕ} (body : Body w p b) (g : ℕ) (row : g < rowCount w) where
-  pub kind-branch : eqb (kind w g) 11 ≡ isBranch (class w g)
-  unfolding base
-  kind-branch = kind-jump (kind w g) (detail w g) (body .details g row) ∙ sym (own-branch w g)
-
   pub jump-branch : kind w g ≡ 11 → isBranch (class w g) ≡ true
-  jump-branch k = sym kind-branch ∙ eq-eqb (kind w g) 11 k
+  jump-branch k = sym (branch-kind w g (body .details g row)) ∙ eq-eqb (kind w g) 11 k
 
   pub other-branch : (kind w g ≡ 11 → ⊥) → isBranch (class w g) ≡ false
-  other-branch k = sym kind-branch ∙ ne-eqb (kind w g) 11 k
+  other-branch k = sym (branch-kind w g (body .details g row)) ∙ ne-eqb (kind w g) 11 k
 
   detail-goto : kind w g ≡ 11 → isClass w goto g ≡ eqb (detail w g) 2
   unfolding base
@@ -161,21 +156,6 @@ module _ {w p b : List ℕ} (body : Body w p b) where
           (λ e.
           at-later w p b (rowCount w) g c e
           ∙ ap word (sym (goto-later w p b g e)) ∙ sym (binding-goto w p b g (branch-label w p b g t) c))
-
-module _ (w p b : List ℕ) (g : ℕ) where
-  -- a goto that is pending at the end is not bound, and one that is not bound is pending
-  pub waits-unbound : pending w p b (rowCount w) g ≡ true → isBranch (class w g) ≡ true → binding w p b g ≡ 0
-  waits-unbound q t =
-      let x = is-pending w p b (rowCount w) g q in
-      binding-goto w p b g (branch-label w p b g t) (x .gotos)
-      ∙ ap word (goto-later w p b g (x .no-earlier) ∙ x .no-later)
-
-  pub unbound-waits : class w g ≡ goto → isBranch (class w g) ≡ true → binding w p b g ≡ 0 → pending w p b (rowCount w) g ≡ true
-  unbound-waits c t z = case-of (pending w p b (rowCount w) g) (λ q. q)
-      (λ q.
-      let (d, e) = some-goto-label w p b g c q in
-      let f = binding-goto w p b g (branch-label w p b g t) c ∙ ap word e in
-      absurd (omega arith))
 
 -- at most 500 pairs
 pub pair-most : {w p b : List ℕ} → Body w p b → pairCount p ≤ 500

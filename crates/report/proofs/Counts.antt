@@ -13,8 +13,8 @@ use borrow.Author.Tests.{ltb-false, eqb-false, lt-ltb, le-ltb, eq-eqb, ne-eqb}
 use Rattle.rules.specs.Names.{badNameWords}
 use Rattle.rules.specs.Refusals.{badRowWords}
 use Rattle.rules.proofs.Causes.{refused-at, bad-1, good-1, bad-2}
+use Rattle.rules.proofs.Each.{each-length}
 use Rattle.rules.proofs.Test.{case-of, clash, or-false}
-use Rattle.walk_state.proofs.WalkBindings.{each-length}
 use Rattle.bodyfile.specs.File.{word, words, rows, names, bytes, rowWords, pairWords, nameBytes}
 use Rattle.report_lines.specs.Text.{refusedText}
 use Rattle.report.specs.Text.{bodyText}

@@ -15,10 +15,11 @@ use Rattle.rules.specs.Labels.{binding, sheet, bindings}
 use Rattle.rules.specs.Placing.{placing}
 use Rattle.rules.specs.Verdict.{verdict}
 use Rattle.rules.specs.Calls.{Answer, refused, answered, faultWords, tooShort, labelCall, placingCall, verdictCall}
+use Rattle.rules.proofs.Each.{each-length}
+use Rattle.rules.proofs.LabelCall.{label-refused, label-written}
 use Rattle.rules.proofs.Lent.{room as has-room}
 use Rattle.rules.proofs.Test.{clash}
 use Rattle.walk_state.proofs.WalkFaults.{words-length}
-use Rattle.walk_state.proofs.WalkBindings.{each-length}
 use Rattle.marking.specs.Marks.{marksCall}
 use Rattle.report_lines.specs.Text.{refusedText, sheetText, bindsText, placedText, verdictText}
 use Rattle.report.specs.Text.{bodyText}
@@ -64,21 +65,19 @@ module _ (w p b : List ℕ) where
   -- ---- the call
   module _ (s t : List ℕ) where
     call-refused : (r : ℕ × ℕ) → refusal w p b ≡ some r → marksCall w p b s t ≡ refused (r .0) (r .1)
-    unfolding marksCall labelCall
-    call-refused r e = rw (marksCall, labelCall, e)
+    unfolding marksCall
+    call-refused r e = rw (marksCall, label-refused w p b s t r e)
 
     module _ (e : refusal w p b ≡ none) (room : tooShort w s t ≡ false) where
       call-answered : marksCall w p b s t ≡ answered (length (sheet w p b), placing w, verdict w p b)
-      unfolding marksCall labelCall placingCall verdictCall
-      call-answered = rw (marksCall, labelCall, placingCall, verdictCall, e, room)
+      unfolding marksCall placingCall verdictCall
+      call-answered = rw (marksCall, label-written w p b s t e room, placingCall, verdictCall, e)
 
       call-sheet : labelCall w p b s t .sheet-words ≡ faultWords (sheet w p b) ++ drop (length (faultWords (sheet w p b))) s
-      unfolding labelCall
-      call-sheet = rw (labelCall, e, room)
+      call-sheet = rw (label-written w p b s t e room)
 
       call-bindings : labelCall w p b s t .binding-words ≡ bindings w p b ++ drop (length (bindings w p b)) t
-      unfolding labelCall
-      call-bindings = rw (labelCall, e, room)
+      call-bindings = rw (label-written w p b s t e room)
 
     -- what the call answers is what is printed
     module _ (room : tooShort w s t ≡ false) where

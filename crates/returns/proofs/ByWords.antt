@@ -18,6 +18,7 @@ use Rattle.rules.proofs.ByKind.{among, switches}
 use Rattle.rules.proofs.Classes.{no-block, is-block}
 use Rattle.rules.proofs.Shape.{opens}
 use Rattle.rules.proofs.ClassRules.{class-rule}
+use Rattle.rules.proofs.Lists.{own-breakable, branch-kind}
 
 -- the test holds of every allowed kind and detail
 abbrev pub Tabled : (ℕ → ℕ → Bool) → Type 0
@@ -88,8 +89,8 @@ module _ (w : List ℕ) (r : ℕ) (a : detailAllowed (kind w r) (detail w r) ≡
       (relates w r (λ b c. implies (oneOf (block ∷ []) b && isStatement c) (oneOf (block ∷ []) c)) refl refl) (rw (is-block w r a k, s)))
 
   pub breakable-words : isBreakable (classOf (kind w r) (detail w r)) ≡ isBreakable (class w r)
-  unfolding every lowest base
-  breakable-words = same-eq _ _ (relates w r (λ b c. same (isBreakable b) (isBreakable c)) refl refl)
+  unfolding base
+  breakable-words = sym (own-breakable w r)
 
   -- by the kind alone
   by-any-kind : (P : ℕ → Bool) (Q : Class → Bool) → Tabled (λ k d. same (P k) (Q (classOf k d)))
@@ -102,11 +103,7 @@ module _ (w : List ℕ) (r : ℕ) (a : detailAllowed (kind w r) (detail w r) ≡
   empty-kind = by-any-kind (λ k. eqb k 2) (oneOf (empty ∷ [])) refl
       (same-eq _ _ (relates w r (λ b c. same (oneOf (empty ∷ []) b) (oneOf (empty ∷ []) c)) refl refl))
 
-  pub branch-kinds : eqb (kind w r) 11 ≡ isBranch (class w r)
-  unfolding every lowest detailAllowed classOf
-  branch-kinds = by-any-kind (λ k. eqb k 11) isBranch refl (same-eq _ _ (relates w r (λ b c. same (isBranch b) (isBranch c)) refl refl))
-
   pub other-no-break : (kind w r ≡ 11 → ⊥) → isClass w break r ≡ false
   unfolding every lowest
   other-no-break n = not-true (isClass w break r)
-      (class-rule (λ c. not (isBranch c)) (λ c. not (oneOf (break ∷ []) c)) refl (class w r) (rw (← branch-kinds, ne-eqb (kind w r) 11 n)))
+      (class-rule (λ c. not (isBranch c)) (λ c. not (oneOf (break ∷ []) c)) refl (class w r) (rw (← branch-kind w r a, ne-eqb (kind w r) 11 n)))

@@ -1,6 +1,6 @@
 -- The laws of the binding word of a row, by what the row is; and the label that a branch is bound to has its name.
 -- Assumes nothing.
-use mathlib.Core.Path.{_≡_, sym, _∙_}
+use mathlib.Core.Path.{_≡_, sym, _∙_, ap}
 use mathlib.Core.Bool.{true, false, _&&_}
 use mathlib.Core.List.{List}
 use mathlib.Core.Option.{some}
@@ -8,12 +8,12 @@ use Prim.Native.Nat.{ℕ, suc, _<_}
 use native.Mathlib.Omega.{arith}
 use Rattle.rules.specs.Rows.{rowCount}
 use Rattle.rules.specs.Class.{goto, isBranch, class}
-use Rattle.rules.specs.Labels.{is, isClass, word, isLabel, labels, declared, gotoLabel, validTarget, labelledBreak, binding}
+use Rattle.rules.specs.Labels.{is, isClass, word, isLabel, labels, declared, gotoLabel, pending, validTarget, labelledBreak, binding}
 use Rattle.rules.proofs.Test.{case-of, clash, true-and}
 use Rattle.rules.proofs.ClassTests.{one-is, one-not}
 use Rattle.rules.proofs.Found.{found-is, word-found}
 use Rattle.rules.proofs.LabelRows.{other-label, is-declared}
-use Rattle.rules.proofs.GotoRows.{goto-label}
+use Rattle.rules.proofs.GotoRows.{goto-later, goto-label, is-pending, some-goto-label}
 
 module _ (w p b : List ℕ) where
   -- ---- a label
@@ -72,3 +72,17 @@ module _ (w p b : List ℕ) where
       let x = is-declared w p b g d (word-found (declared w p b g) d (sym (as-break g n u v) ∙ e)) in
       (x .0, x .1))
       (λ v. absurd (omega (arith, as-other g n u v))))
+
+  -- a goto that is pending at the end is not bound, and one that is not bound is pending
+  pub waits-unbound : (g : ℕ) → pending w p b (rowCount w) g ≡ true → isBranch (class w g) ≡ true → binding w p b g ≡ 0
+  waits-unbound g q t =
+      let x = is-pending w p b (rowCount w) g q in
+      binding-goto g (branch-label g t) (x .gotos)
+      ∙ ap word (goto-later w p b g (x .no-earlier) ∙ x .no-later)
+
+  pub unbound-waits : (g : ℕ) → class w g ≡ goto → isBranch (class w g) ≡ true → binding w p b g ≡ 0 → pending w p b (rowCount w) g ≡ true
+  unbound-waits g c t z = case-of (pending w p b (rowCount w) g) (λ q. q)
+      (λ q.
+      let (d, e) = some-goto-label w p b g c q in
+      let f = binding-goto g (branch-label g t) c ∙ ap word e in
+      absurd (omega arith))

@@ -14,7 +14,7 @@ use Rattle.rules.specs.Rows.{rowCount, name, end, Child}
 use Rattle.rules.specs.Class.{Class, labeled, break, continue, goto, fallthrough, caseBlock, oneOf, isBranch, isBreakable, isLoop, isCase, class}
 use Rattle.rules.specs.Body.{Body}
 use Rattle.rules.specs.Scope.{isBlock, isList, around, innermost, listOf, nextCase, onlyEmpty}
-use Rattle.rules.specs.Labels.{isSome, needs, labels, lastInRun, inBlockOf, target}
+use Rattle.rules.specs.Labels.{isSome, needs, labels, inBlockOf, target}
 use Rattle.rules.specs.Placing.{endsCase, wellPlaced, badlyPlaced, placing}
 use Rattle.rules.specs.Verdict.{labelOn, refersTo}
 use Rattle.rules.specs.Runner.{breakTo, continueTo, gotoTo}
@@ -28,6 +28,7 @@ use Rattle.rules.proofs.Around.{around-true, true-around, Innermost, in
 use Rattle.rules.proofs.Found.{is-some}
 use Rattle.rules.proofs.LabelRows.{labels-label}
 use Rattle.rules.proofs.GotoRows.{goto-label}
+use Rattle.rules.proofs.BreakRows.{is-target}
 use Rattle.rules.proofs.FromLawful.{goto-bound}
 use Rattle.rules.proofs.Terminating.{label-on, refers-innermost, refers-labelled}
 use Rattle.rules.proofs.Lists.{case-parent, parent-innermost}
@@ -68,25 +69,22 @@ module _ (w p b : List ℕ) where
 
 module _ {w p b : List ℕ} (body : Body w p b) where
   -- ---- the target of a labelled break or continue: its statement is around the branch, and the label is directly on it
-  record Target (g t : ℕ) : Type 0 where
+  record Labelled (g t : ℕ) : Type 0 where
     before : suc t < g
     reaches : g < end w (suc t)
     labelled : labelOn w p b g (suc t) ≡ true
 
-  target-of : (g t : ℕ) → g < rowCount w → target w p b g ≡ some t → Target g t
-  unfolding target
+  target-of : (g t : ℕ) → g < rowCount w → target w p b g ≡ some t → Labelled g t
   target-of g t i e =
-      let (m, u) = highest-found (λ t. around w g t && (labels w p b g t && (lastInRun w p b t && inBlockOf w p b t g))) g t e in
-      let a = and-true (around w g t) (labels w p b g t && (lastInRun w p b t && inBlockOf w p b t g)) u in
-      let c = and-true (labels w p b g t) (lastInRun w p b t && inBlockOf w p b t g) (a .1) in
-      let d = and-true (lastInRun w p b t) (inBlockOf w p b t g) (c .1) in
-      let (label, same) = labels-label w p b g t (omega (arith, i, m)) (c .0) in
+      let x = is-target w p b g t e in
+      let m = x .before in
+      let r = x .reaches in
+      let (label, same) = labels-label w p b g t (omega arith) (x .names) in
       let k = label .labels in
-      let o = body .one-statement t (omega (arith, i)) (rw k) in
-      let r = around-true w g t (a .0) in
-      record { before = block-between w p b t g (d .1); reaches = omega (arith, o .1); labelled = label-on w p b g t k same }
+      let o = body .one-statement t (omega arith) (rw k) in
+      record { before = block-between w p b t g (x .in-block); reaches = omega (arith, o .1); labelled = label-on w p b g t k same }
 
-  target-around : (P : Class → Bool) (g t : ℕ) → Target g t → P (class w (suc t)) ≡ true → Innermost w P g (suc t)
+  target-around : (P : Class → Bool) (g t : ℕ) → Labelled g t → P (class w (suc t)) ≡ true → Innermost w P g (suc t)
   target-around P g t d e = record { before = d .before; reaches = d .reaches; passes = e }
 
   -- ---- a fallthrough
@@ -126,7 +124,7 @@ module _ {w p b : List ℕ} (body : Body w p b) where
 
     -- a labelled break or continue has its target
     abbrev HasTarget : ℕ → Type 0
-    HasTarget g = (t : ℕ) × Target g t × (needs (class w g) (class w (suc t)) ≡ true)
+    HasTarget g = (t : ℕ) × Labelled g t × (needs (class w g) (class w (suc t)) ≡ true)
 
     has-target : (g : ℕ) → g < rowCount w → oneOf (break ∷ continue ∷ []) (class w g) ≡ true → 0 < name w g → HasTarget g
     has-target g i c n = from-lawful (lawful .destinations g i (branch (class w g) c) n)

@@ -16,6 +16,7 @@ pub mod Facts
 pub mod Tried
 pub mod Table
 pub mod Lent
+pub mod LabelCall
 pub mod Each
 pub mod ClassTests
 pub mod Found

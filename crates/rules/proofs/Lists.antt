@@ -8,6 +8,7 @@ use mathlib.Core.Option.{none, some}
 use Prim.Native.Nat.{ℕ, zero, suc, _<_}
 use native.Mathlib.Omega.{arith}
 use native.Mathlib.Decide.{ℕ-discrete}
+use lib.Dec.{eqb}
 use borrow.Author.Tests.{not-true}
 use Rattle.rules.specs.Scan.{lowest}
 use Rattle.rules.specs.Rows.{rowCount, kind, detail, Child}
@@ -18,6 +19,7 @@ use Rattle.rules.specs.Body.{Body, fits}
 use Rattle.rules.proofs.Test.{case-of, case-found, clash, and-true}
 use Rattle.rules.proofs.Scan.{none-highest, found-highest}
 use Rattle.rules.proofs.Every.{every, same, same-eq, classAt, of-classes}
+use Rattle.rules.proofs.ByKind.{kind-jump}
 use Rattle.rules.proofs.Nesting.{item-before, item-from, child-around, ends-before}
 use Rattle.rules.proofs.ClassRules.{class-rule, child-rule, parent-rule}
 use Rattle.rules.proofs.Around.{around-true, true-around, Innermost, innermost-found, innermost-last, innermost-none}
@@ -39,6 +41,10 @@ module _ (w : List ℕ) (r : ℕ) where
   pub own-branch : isBranch (class w r) ≡ isBranch (base w r)
   unfolding every lowest
   own-branch = own-words isBranch refl w r
+
+  pub branch-kind : detailAllowed (kind w r) (detail w r) ≡ true → eqb (kind w r) 11 ≡ isBranch (class w r)
+  unfolding base
+  branch-kind a = kind-jump (kind w r) (detail w r) a ∙ sym own-branch
 
   pub own-breakable : isBreakable (class w r) ≡ isBreakable (base w r)
   unfolding every lowest

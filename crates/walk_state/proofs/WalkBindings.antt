@@ -3,40 +3,25 @@
 -- Assumes nothing.
 use mathlib.Core.Path.{_≡_, sym, _∙_, ap}
 use mathlib.Core.Bool.{true, false}
-use mathlib.Core.List.{List, [], _∷_}
+use mathlib.Core.List.{List}
 use mathlib.Core.Option.{none, some}
-use Prim.Native.Nat.{ℕ, zero, suc, _≤_, _<_}
+use Prim.Native.Nat.{ℕ, suc, _≤_, _<_}
 use native.Mathlib.Omega.{arith}
 use native.Mathlib.Decide.{ℕ-discrete, decLt}
 use lib.Dec.{ltb}
-use lib.ListN.{length, getD, take, drop, set, length-append, length-set, List·getD-append}
-use lib.Seq.{getD-at, ext-getD, length-take-le, getD-take, getD-set-same, getD-set-other, drop-set-lt}
+use lib.ListN.{length, getD, take, drop, set, length-set}
+use lib.Seq.{ext-getD, length-take-le, getD-take, getD-set-same, getD-set-other, drop-set-lt}
 use borrow.Author.Tests.{lt-ltb, le-ltb}
 use Rattle.rules.specs.Rows.{rowCount}
 use Rattle.rules.specs.Class.{goto, class}
-use Rattle.rules.specs.Labels.{each, isClass, isLabel, earlier, later, word, binding}
+use Rattle.rules.specs.Labels.{isClass, isLabel, earlier, later, word, binding}
 use Rattle.rules.proofs.Test.{case-of, case-found, clash}
-use Rattle.rules.proofs.Each.{each-zero, each-suc}
+use Rattle.rules.proofs.Each.{each-length, each-at}
 use Rattle.rules.proofs.ClassTests.{one-is, one-not}
 use Rattle.rules.proofs.Every.{is-one}
 use Rattle.rules.proofs.LabelRows.{is-labels}
 use Rattle.rules.proofs.GotoRows.{isLater, later-parts, is-later, later-first, later-is, later-none, none-later}
 use Rattle.walk_state.specs.Walk.{bindingAt, bindingsAt}
-
--- ---- one word for each number below n
-module _ (f : ℕ → ℕ) where
-  pub each-length : (n : ℕ) → length (each (λ g. f g ∷ []) n) ≡ n
-  each-length zero = rw (each-zero (λ g. f g ∷ []))
-  each-length (suc n) = rw (each-suc (λ g. f g ∷ []) n, length-append) (omega (arith, each-length n))
-
-  pub each-at : (n g : ℕ) → g < n → getD (each (λ g. f g ∷ []) n) g 0 ≡ f g
-  each-at zero g h = absurd (omega arith)
-  each-at (suc n) g h = elim (ℕ-discrete g n) [
-    | yes e ↦ rw (each-suc (λ g. f g ∷ []) n, e) (getD-at (each (λ g. f g ∷ []) n) (f n) [] 0 n (each-length n))
-    | no o ↦
-        rw (each-suc (λ g. f g ∷ []) n)
-        (List·getD-append (each (λ g. f g ∷ []) n) (f n ∷ []) 0 g (omega (arith, each-length n)) ∙ each-at n g (omega arith))
-  ]
 
 module _ (w p b : List ℕ) where
   -- ---- the words at x
