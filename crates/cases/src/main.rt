@@ -1,13 +1,9 @@
 // Goes through the list on standard input (README.md) and copies it to standard output, but for the
 // answer lines: in the place of each it prints the answer that it works out. So the file stdout is
 // the list too, and a line that differs is that of a body which is answered otherwise.
-mod answers;
-mod kinds;
-mod lines;
-mod words;
-
+use case_lines::lines;
+use case_lines::lines::Used;
 use libc::STDIN_FILENO;
-use lines::Used;
 use testing::show;
 
 // Goes through the lines of a list, with room for the words and bytes of one body.

@@ -4,8 +4,8 @@ use lib.ListN.{length}
 use mathlib.Core.Path.{_≡_}
 use Prim.Native.Nat.{_-_}
 use borrow.Author.Needs.{needs}
-use Rattle.cases.proofs.words.append.Statement.{statement}
-use Rattle.cases.proofs.words.append.Tie as tie
+use Rattle.testing.proofs.words.append.Statement.{statement}
+use Rattle.testing.proofs.words.append.Tie as tie
 
 abbrev Inv-loop : tie.InvT-loop
 Inv-loop words₀ count line from n₀ i₀ words n i = length words ≡ length words₀

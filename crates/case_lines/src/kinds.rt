@@ -1,5 +1,5 @@
 // What a line of the list is.
-use crate::words;
+use testing::words;
 
 pub enum Kind {
     Rows,

@@ -2,8 +2,8 @@
 -- Assumes nothing.
 use Prim.Native.Nat.{_≤_, _-_}
 use borrow.Author.Needs.{needs}
-use Rattle.cases.proofs.answers.sheet_rows.Statement.{statement}
-use Rattle.cases.proofs.answers.sheet_rows.Tie as tie
+use Rattle.case_lines.proofs.answers.sheet_rows.Statement.{statement}
+use Rattle.case_lines.proofs.answers.sheet_rows.Tie as tie
 
 abbrev Inv-loop : tie.InvT-loop
 Inv-loop sheet count row₀ row = row ≤ count

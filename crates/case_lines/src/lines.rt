@@ -2,8 +2,8 @@
 use crate::answers;
 use crate::kinds;
 use crate::kinds::Kind;
-use crate::words;
 use testing::show;
+use testing::words;
 
 // How many row words, pair words and name bytes are in use; NOT_TAKEN where a line couldn't be
 // taken.
