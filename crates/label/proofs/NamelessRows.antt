@@ -16,7 +16,7 @@ use Rattle.rules.proofs.BreakRows.{not-labelled}
 use Rattle.rules.proofs.BindingRows.{binding-other}
 use Rattle.rules.proofs.SheetRows.{report-other, unresolved-not, unused-none, none-declared-at, none-sheet}
 use Rattle.walk_state.proofs.WalkPending.{pending-other}
-use Rattle.label.specs.Answered.{NoName}
+use Rattle.label.specs.Cleared.{NoName}
 
 -- without names in the table no row has one
 pub no-pairs : {w p b : List ℕ} → Body w p b → pairCount p ≡ 0 → NoName w

@@ -2,9 +2,9 @@
 -- the sheet.
 -- Assumes nothing.
 use mathlib.Core.Path.{_∙_}
-use Rattle.label.proofs.CallRows.{walk-requires, walked-end, tables-room, unused-start, walked-answered}
-use Rattle.label.proofs.walk_body.Statement.{statement}
-use Rattle.label.proofs.walk_body.Tie as tie
+use Rattle.label_body.proofs.BodyRows.{walk-requires, walked-end, tables-room, unused-start, walked-answered}
+use Rattle.label_body.proofs.walk_body.Statement.{statement}
+use Rattle.label_body.proofs.walk_body.Tie as tie
 
 -- ---- points of the code that the answers below go back to
 abbrev at-start-1 : tie.After-canon-table-arg → tie.Start

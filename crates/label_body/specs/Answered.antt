@@ -4,20 +4,10 @@ use mathlib.Core.Path.{_≡_}
 use mathlib.Core.List.{List}
 use Prim.Native.Nat.{ℕ, _*_, _≤_, _<_}
 use lib.ListN.{length, getD, take, drop}
-use Rattle.rules.specs.Rows.{rowCount, name}
+use Rattle.rules.specs.Rows.{rowCount}
 use Rattle.rules.specs.Names.{pairCount}
 use Rattle.rules.specs.Labels.{sheet as sheetOf, bindings as bindingsOf}
 use Rattle.label_rest.specs.Rest.{Reported}
-
--- no row has a name
-abbrev pub NoName : List ℕ → Type 0
-NoName w = (r : ℕ) → r < rowCount w → name w r ≡ 0
-
--- the first n words are 0, and those past them as they were
-pub record Cleared (n : ℕ) (t t′ : List ℕ) : Type 0 where
-  pub cleared-length : length t′ ≡ length t
-  pub zeros : (g : ℕ) → g < n → getD t′ g 0 ≡ 0
-  pub kept : drop n t′ ≡ drop n t
 
 -- room for the sheet and the bindings, and each row's binding is 0
 pub record Blank (w sheet bindings : List ℕ) : Type 0 where

@@ -1,9 +1,9 @@
--- Tables of 0 with room for 31 names and 128 rows serve a body that has no more.
+-- Tables of 0 with room for 500 names and 2,000 rows serve every body.
 -- Assumes nothing.
-use Rattle.label.proofs.CallRows.{lent-zeros}
+use Rattle.label_body.proofs.BodyRows.{lent-large}
 use borrow.Author.Needs.{needs}
-use Rattle.label.proofs.walk_small.Statement.{statement}
-use Rattle.label.proofs.walk_small.Tie as tie
+use Rattle.label_body.proofs.walk_large.Statement.{statement}
+use Rattle.label_body.proofs.walk_large.Tie as tie
 
 slice-aggregate-walk-body : tie.Need-slice-aggregate-walk-body
 slice-aggregate-walk-body c = search needs
@@ -32,7 +32,7 @@ slice-aggregate-walk-body-8 c = search needs
 walk-body-requires : tie.Need-walk-body-requires
 walk-body-requires c κs =
     let s = c .before .before .before .before .before .before .before .before .before .before .before .before .before .before .before in
-    (s .pre .0 .0, lent-zeros (s .pre .0 .0) 32 128 _ _ (s .pre .0 .1) (s .pre .0 .2) (s .pre .1))
+    (s .pre .0, lent-large (s .pre .0) _ _ (s .pre .1))
 
 same-length : tie.Need-same-length
 same-length c = search needs
@@ -43,8 +43,8 @@ same-length-2 c = search needs
 returns : tie.Need-returns
 returns c = search needs
 
-pub walk-small-spec : {M : Type 1} → statement M
-walk-small-spec =
+pub walk-large-spec : {M : Type 1} → statement M
+walk-large-spec =
     tie.close
     (tie.spec
     slice-aggregate-walk-body
