@@ -3,9 +3,9 @@ pub mod depth;
 
 use names::Found;
 use refusals::Refusal;
+use row_checks::row_allowed;
 use rows::RowNumber;
-use rows_fit::row_allowed;
-use rows_fit::walk::well_formed_rows;
+use rows_fit::well_formed_rows;
 ghost use mathlib.Core.Path.{_≡_};
 ghost use Rattle.rules.specs.Scan.{lowest};
 ghost use Rattle.rules.specs.Rows.{rowCount};

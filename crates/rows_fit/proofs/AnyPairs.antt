@@ -7,7 +7,7 @@ use native.Mathlib.Omega.{arith}
 use lib.ListN.{replicate, length-replicate}
 use Rattle.rules.specs.Names.{pairCount}
 use Rattle.rules.specs.Refusals.{badRow}
-use Rattle.rows_fit.specs.Right.{Right, RightBelow}
+use Rattle.row_checks.specs.Right.{Right, RightBelow}
 
 -- as many pairs
 unfoldable pub somePairs : ℕ → List ℕ

@@ -18,11 +18,11 @@ use Rattle.rules.specs.Refusals.{Holding, holding, badRow}
 use Rattle.rules.proofs.Every.{every, of-classes, implies, implied}
 use Rattle.rules.proofs.Facts.{good-row}
 use Rattle.shape.specs.DetailedTo.{DetailedTo}
-use Rattle.rows_fit.specs.Parts.{isList, TwoParts, Parts}
-use Rattle.rows_fit.specs.Right.{Right, RightBelow, Met}
+use Rattle.row_checks.specs.Parts.{isList, TwoParts, Parts}
+use Rattle.row_checks.specs.Right.{Right, RightBelow, Met}
 use Rattle.rows_fit.proofs.Deeper.{deeper}
-use Rattle.rows_fit.proofs.RightRows.{never, right-size, right-shape, shape-right, Fit}
-use Rattle.rows_fit.proofs.PartsFit.{parts-fit, part-next}
+use Rattle.row_checks.proofs.RightRows.{never, right-size, right-shape, shape-right, Fit}
+use Rattle.row_checks.proofs.PartsFit.{parts-fit, part-next}
 
 -- ---- a Block holds a list whatever it is the Block of
 block-follows : (b c : Class) → oneOf (block ∷ []) c ≡ true → isList (holding (following b c)) ≡ true

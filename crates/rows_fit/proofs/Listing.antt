@@ -14,11 +14,11 @@ use Rattle.rules.specs.Refusals.{Holding, nothing, statement, body, branches, s
 use Rattle.rules.proofs.Facts.{good-row}
 use Rattle.shape.specs.DetailedTo.{DetailedTo}
 use Rattle.shape.proofs.Stepping.{may, Walk, begin, ended, next}
-use Rattle.rows_fit.specs.Plain.{PlainItem, PlainItems}
-use Rattle.rows_fit.specs.Parts.{isList, itemKind}
-use Rattle.rows_fit.specs.Right.{Right, RightBelow, Met}
+use Rattle.row_checks.specs.Plain.{PlainItem, PlainItems}
+use Rattle.row_checks.specs.Parts.{isList, itemKind}
+use Rattle.row_checks.specs.Right.{Right, RightBelow, Met}
 use Rattle.rows_fit.proofs.Deeper.{deeper}
-use Rattle.rows_fit.proofs.RightRows.{never, right-size, right-shape, class-needs, leaf-below}
+use Rattle.row_checks.proofs.RightRows.{never, right-size, right-shape, class-needs, leaf-below}
 
 -- ---- what holds of every list
 any-item : (h : Holding) → isList h ≡ true → (i : ℕ) (c : Class) → mayHold h i c ≡ mayHold h 0 c

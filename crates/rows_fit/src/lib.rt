@@ -1,54 +1,107 @@
-// Whether the rows are right: each row's own words, and in one walk whether none of the causes 4, 5
-// and 6 applies to any row.
-pub mod plain;
-pub mod walk;
-
+// One walk down the rows, which finds out whether none of the causes 4, 5 and 6 applies. It doesn't
+// say which applies, or to which row.
+use row_checks::parts::holds_list;
+use row_checks::parts::item_kind;
+use row_checks::parts::may_be_item;
+use row_checks::parts::parts_fit;
+use row_checks::plain::end_of_items;
+use row_checks::row_allowed;
 use rows::RowNumber;
-use rows::details;
-use rows::kinds;
 ghost use mathlib.Core.Path.{_≡_};
-ghost use mathlib.Core.Bool.{true, not};
+ghost use mathlib.Core.Bool.{true};
 ghost use mathlib.Core.List.{List};
-ghost use Prim.Native.Nat.{ℕ, _<_};
+ghost use Prim.Native.Nat.{ℕ, _≤_, _<_};
 ghost use Rattle.rules.specs.Rows.{rowCount};
-ghost use Rattle.rules.specs.Class.{classOf, detailAllowed};
+ghost use Rattle.rules.specs.Class.{class};
 ghost use Rattle.rules.specs.Names.{pairCount};
-ghost use Rattle.rules.specs.Refusals.{nameAllowed, badRow};
+ghost use Rattle.rules.specs.Refusals.{holding as holdingOf};
+ghost use Rattle.shape.specs.DetailedTo.{DetailedTo};
+ghost use Rattle.row_checks.specs.Right.{Right, RightBelow, Met};
+ghost use Rattle.row_checks.specs.Parts.{isList};
 
-// Whether a row of this kind and detail may have this name: Labeled and goto must have one, other
-// Branches may, the rest have none.
-fn name_allowed(kind: u32, detail: u32, pair_count: usize, name: usize) -> bool
-    requires { ⌜ detailAllowed kind detail ≡ true ⌝ }
-    ensures { λ r. ⌜ r ≡ nameAllowed (classOf kind detail) «pair_count» name ⌝ }
+// Whether none of the causes 4, 5 and 6 applies to the statement, which is so deep, and to the rows
+// below it. A row whose only child fills it is followed by that child; only lists take a call.
+fn statement_fits(rows: &[u32], pair_count: usize, row: RowNumber, depth: usize) -> bool
+    requires { ⌜ Met (now rows) (row .0) depth × (0 < row .0) ⌝ }
+    ensures { λ r. ⌜ (r ≡ true → (p : List ℕ) → pairCount p ≡ «pair_count» → Right (now (rows .entry)) p (row .0)
+        × RightBelow (now (rows .entry)) p (row .0)) ⌝ }
 {
-    if pair_count < name {
-        return false;
-    }
-    if kind == kinds::LABELED {
-        return name != 0;
-    }
-    if kind == kinds::BRANCH {
-        if detail == details::GOTO {
-            return name != 0;
+    let end = row.0 + rows::size(rows, row);
+    let mut c = row.0;
+    let mut d = depth;
+    while c < end {
+        let r = RowNumber(c);
+        if 100 < d {
+            return false;
         }
-        return true;
+        if !row_allowed(rows, pair_count, r) {
+            return false;
+        }
+        let holding = shape::holding_at(rows, r);
+        if holds_list(holding) {
+            if !list_fits(rows, pair_count, r, d) {
+                return false;
+            }
+            c += rows::size(rows, r);
+        } else {
+            if !parts_fit(rows, r, holding) {
+                return false;
+            }
+            c += 1;
+            d += 1;
+        }
     }
-    name == 0
+    true
 }
 
-// Whether the row's kind, detail, position and name are allowed, where there are so many pairs.
-pub fn row_allowed(rows: &[u32], pair_count: usize, row: RowNumber) -> bool
-    requires { ⌜ row .0 < rowCount (now rows) ⌝ }
-    ensures { λ r. ⌜ ((p : List ℕ) → pairCount p ≡ «pair_count» → r ≡ not (badRow (now (rows .entry)) p (row .0))) ⌝ }
+// The same of the rows below a list, which is so deep. Plain items are passed in runs.
+fn list_fits(rows: &[u32], pair_count: usize, row: RowNumber, depth: usize) -> bool
+    requires { ⌜ Met (now rows) (row .0) depth × DetailedTo (now rows) (row .0) × (isList (holdingOf (class (now rows) (row .0))) ≡ true) ⌝ }
+    ensures { λ r. ⌜ (r ≡ true → (p : List ℕ) → pairCount p ≡ «pair_count» → RightBelow (now (rows .entry)) p (row .0)) ⌝ }
 {
-    let kind = rows::kind(rows, row);
-    let detail = rows::detail(rows, row);
-    if !details::detail_allowed(kind, detail) {
+    let end = row.0 + rows::size(rows, row);
+    if 99 < depth {
+        return end == row.0 + 1;
+    }
+    let items = item_kind(rows, row);
+    let mut c = row.0 + 1;
+    while c < end {
+        if items == 0 {
+            c = end_of_items(rows, c, end);
+        }
+        if c < end {
+            let item = RowNumber(c);
+            if !may_be_item(items, rows::kind(rows, item)) {
+                return false;
+            }
+            let size = rows::size(rows, item);
+            if size == 0 {
+                return false;
+            }
+            if end < c + size {
+                return false;
+            }
+            if !statement_fits(rows, pair_count, item, depth + 1) {
+                return false;
+            }
+            c += size;
+        }
+    }
+    true
+}
+
+// Whether none of the causes 4, 5 and 6 applies to the rows.
+pub fn well_formed_rows(rows: &[u32], pairs: &[u32]) -> bool
+    requires { ⌜ (0 < rowCount (now rows)) × (rowCount (now rows) ≤ 2000) ⌝ }
+    ensures { λ r. ⌜ (r ≡ true → (k : ℕ) → k < rowCount (now (rows .entry)) → Right (now (rows .entry)) (now (pairs .entry)) k) ⌝ }
+{
+    let root = RowNumber(0);
+    let pair_count = pairs.len() / 2;
+    if !row_allowed(rows, pair_count, root) {
         return false;
     }
-    if rows::position(rows, row) == 0 {
+    if !shape::is_body(rows) {
         return false;
     }
-    let name = rows::name(rows, row);
-    name_allowed(kind, detail, pair_count, name.0)
+    list_fits(rows, pair_count, root, 1)
 }

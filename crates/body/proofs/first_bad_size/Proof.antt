@@ -10,7 +10,7 @@ use borrow.Author.Tests.{eq-eqb, ne-eqb, lt-ltb}
 use Rattle.rules.specs.Rows.{rowCount, size, end}
 use Rattle.rules.specs.Refusals.{badSize}
 use Rattle.rules.proofs.Scan.{found-lowest, none-lowest}
-use Rattle.rows_fit.proofs.RightRows.{right-size}
+use Rattle.row_checks.proofs.RightRows.{right-size}
 use Rattle.body.proofs.first_bad_size.Statement.{statement}
 use Rattle.body.proofs.first_bad_size.Tie as tie
 

@@ -19,7 +19,7 @@ use Rattle.rules.proofs.Scan.{none-lowest}
 use Rattle.rules.proofs.Causes.{NoneOf, refused-at, accepted, bad-1, good-1, bad-2, good-2, is-3, is-4, bad-size-5, is-5, is-6}
 use Rattle.rules.proofs.Facts.{row-words, details, sizes}
 use Rattle.names.specs.Place.{place}
-use Rattle.rows_fit.specs.Right.{Right}
+use Rattle.row_checks.specs.Right.{Right}
 use Rattle.body.proofs.refusal_of.Statement.{statement}
 use Rattle.body.proofs.refusal_of.Tie as tie
 
