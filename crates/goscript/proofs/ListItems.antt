@@ -10,8 +10,8 @@ use borrow.Author.Tests.{lt-ltb, le-ltb}
 use Rattle.rules.specs.Rows.{rowCount, size, end, Child, here}
 use Rattle.rules.specs.Body.{Body}
 use Rattle.rules.proofs.Nesting.{item-next}
-use Rattle.returns.specs.Search.{Closed}
-use Rattle.returns.proofs.Ranges.{closed-below, closed-rest}
+use Rattle.breaks.specs.Leaves.{Closed}
+use Rattle.breaks.proofs.Ranges.{closed-below, closed-rest}
 use Rattle.goscript.specs.Syntax.{items, list}
 
 module _ (w : List ℕ) where

@@ -24,11 +24,11 @@ use Rattle.rules.proofs.Every.{every}
 use Rattle.rules.proofs.Nesting.{item-from}
 use Rattle.rules.proofs.Shape.{opens}
 use Rattle.rules.proofs.ClassRules.{isClauseBlock, by-one, class-rule, only-opened}
-use Rattle.returns.specs.Search.{labelNumber, leaves, anyLeaves}
-use Rattle.returns.proofs.Ranges.{closed-rest, closed-item}
-use Rattle.returns.proofs.Leaving as leaving
-use Rattle.returns.proofs.Leaving.{any-apart, any-unnamed, any-leaf, any-below, any-held, own-other, own-plain, own-unnamed, own-named}
-use Rattle.returns.proofs.Referring.{has-break-below}
+use Rattle.breaks.specs.Leaves.{labelNumber, leaves, anyLeaves}
+use Rattle.breaks.proofs.Ranges.{closed-rest, closed-item}
+use Rattle.breaks.proofs.Leaving as leaving
+use Rattle.breaks.proofs.Leaving.{any-apart, any-unnamed, any-leaf, any-below, any-held, own-other, own-plain, own-unnamed, own-named}
+use Rattle.breaks.proofs.Referring.{has-break-below}
 use Rattle.goscript.specs.Build.{Build}
 use Rattle.goscript.specs.Syntax.{any, list, ident}
 use Rattle.goscript.specs.Returns.{is, isSome, has-break, has-break-list}

@@ -20,8 +20,9 @@ use Rattle.rules.proofs.Nesting.{item-from}
 use Rattle.rules.proofs.Shape.{opens}
 use Rattle.rules.proofs.ClassRules.{class-rule, child-rule}
 use Rattle.rules.proofs.Terminating.{isDefault}
-use Rattle.returns.specs.Search.{labelNumber, Closed, isTerminating, isTerminatingList, anyLeaves}
-use Rattle.returns.proofs.Ranges.{closed-rest}
+use Rattle.breaks.specs.Leaves.{labelNumber, Closed, anyLeaves}
+use Rattle.returns.specs.Search.{isTerminating, isTerminatingList}
+use Rattle.breaks.proofs.Ranges.{closed-rest}
 use Rattle.returns.proofs.Clauses.{isClause, clause-list, left, left-ended, left-open, left-broken, left-next, clause-of, left-start}
 use Rattle.goscript.specs.Build.{Build}
 use Rattle.goscript.specs.Syntax.{any, all, list}

@@ -18,8 +18,9 @@ use Rattle.rules.proofs.Test.{case-of, case-found, clash}
 use Rattle.rules.proofs.Every.{is-one}
 use Rattle.rules.proofs.Nesting.{item-before, item-from}
 use Rattle.rules.proofs.Around.{only-empty, all-empty}
-use Rattle.returns.specs.Search.{labelNumber, Last, isTerminating, isTerminatingList}
-use Rattle.returns.proofs.Ranges.{closed-below, label-of-item, list-label, list-statements}
+use Rattle.breaks.specs.Leaves.{labelNumber}
+use Rattle.returns.specs.Search.{Last, isTerminating, isTerminatingList}
+use Rattle.breaks.proofs.Ranges.{closed-below, label-of-item, list-label, list-statements}
 use Rattle.returns.proofs.Calls.{one-row-empties}
 use Rattle.returns.proofs.ByClass as byClass
 use Rattle.returns.proofs.ByClass.{last-answer}

@@ -20,8 +20,9 @@ use Rattle.rules.proofs.RowNames.{labeled-named}
 use Rattle.rules.proofs.ClassRules.{isNever, isAlways, isClauseBlock, class-rule, by-rule}
 use Rattle.rules.proofs.Terminating as rules
 use Rattle.rules.proofs.Terminating.{terminating-never, terminating-always}
-use Rattle.returns.specs.Search.{labelNumber, isTerminating}
-use Rattle.returns.proofs.Ranges.{label-of-first, label-on, label-after}
+use Rattle.breaks.specs.Leaves.{labelNumber}
+use Rattle.returns.specs.Search.{isTerminating}
+use Rattle.breaks.proofs.Ranges.{label-of-first, label-on, label-after}
 use Rattle.returns.proofs.ByClass.{row-list, row-labeled, row-ifElse, row-for}
 use Rattle.returns.proofs.RowRule.{part-of}
 use Rattle.goscript.specs.Build.{Build}

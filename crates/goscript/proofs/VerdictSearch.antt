@@ -16,7 +16,7 @@ use Rattle.rules.specs.Scope.{isList, holdsItems}
 use Rattle.rules.proofs.Test.{case-of}
 use Rattle.rules.proofs.Every.{every}
 use Rattle.rules.proofs.ClassRules.{isClauseBlock, by-one, class-rule}
-use Rattle.returns.specs.Search.{labelNumber}
+use Rattle.breaks.specs.Leaves.{labelNumber}
 use Rattle.goscript.specs.Build.{Build}
 use Rattle.goscript.specs.Syntax.{ident}
 use Rattle.goscript.specs.Returns.{handedLabel, handedImplicit}

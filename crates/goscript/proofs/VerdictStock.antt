@@ -8,8 +8,8 @@ use Prim.Native.Nat.{ℕ, zero, suc}
 use native.Mathlib.Omega.{arith}
 use Rattle.rules.specs.Verdict.{verdict as verdictOf}
 use Rattle.rules.specs.Body.{Body}
-use Rattle.returns.specs.Search.{labelNumber}
-use Rattle.returns.proofs.Ranges.{label-of-first, no-label-on}
+use Rattle.breaks.specs.Leaves.{labelNumber}
+use Rattle.breaks.proofs.Ranges.{label-of-first, no-label-on}
 use Rattle.goscript.specs.Build.{stock}
 use Rattle.goscript.specs.Returns.{verdict}
 use Rattle.goscript.specs.Domains.{carriesLabel, noneLabelled}

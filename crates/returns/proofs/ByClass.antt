@@ -25,8 +25,9 @@ use Rattle.rules.proofs.Around.{only-empty, all-empty}
 use Rattle.rules.proofs.Terminating.{terminating-never, terminating-always, terminating-labeled, terminating-statements, terminating-clauses}
 use Rattle.rules.proofs.Terminating.{terminating-ifElse, terminating-switch, terminating-select, terminating-for, list-none, list-last, list-more}
 use Rattle.rules.proofs.Terminating.{clauses-none, clauses-more}
-use Rattle.returns.specs.Search.{Closed, Last, isTerminating, isTerminatingList}
-use Rattle.returns.proofs.Ranges.{closed-below, closed-rest}
+use Rattle.breaks.specs.Leaves.{Closed}
+use Rattle.returns.specs.Search.{Last, isTerminating, isTerminatingList}
+use Rattle.breaks.proofs.Ranges.{closed-below, closed-rest}
 use Rattle.returns.proofs.Enough.{enough}
 
 -- every clause from c on, before e, is terminating

@@ -14,8 +14,9 @@ use Rattle.rules.specs.Labels.{isClass}
 use Rattle.rules.specs.Body.{Body}
 use Rattle.rules.proofs.Shape.{opens}
 use Rattle.rules.proofs.Nesting.{item-before, item-from}
-use Rattle.returns.specs.Search.{labelNumber, Closed, Statements, OneRowEmpties, Last}
-use Rattle.returns.proofs.Ranges.{closed-below, label-of-item, list-label, list-statements}
+use Rattle.breaks.specs.Leaves.{labelNumber, Closed, Statements}
+use Rattle.returns.specs.Search.{OneRowEmpties, Last}
+use Rattle.breaks.proofs.Ranges.{closed-below, label-of-item, list-label, list-statements}
 
 module _ (w p b : List ℕ) (t r label : ℕ) where
   -- below t in the measure, a statement, with the label on it

@@ -21,12 +21,13 @@ use Rattle.rules.proofs.Shape.{opens}
 use Rattle.rules.proofs.ClassRules.{isClauseBlock, class-rule, child-rule, opens-holds}
 use Rattle.rules.proofs.RowNames.{base-class}
 use Rattle.rules.proofs.Terminating.{isDefault, any-default-more, any-default-none, has-default}
-use Rattle.returns.specs.Search.{labelNumber, Closed, isTerminating, isTerminatingList, anyLeaves}
-use Rattle.returns.proofs.Ranges.{closed-below, closed-rest, closed-item}
+use Rattle.breaks.specs.Leaves.{labelNumber, Closed, anyLeaves}
+use Rattle.returns.specs.Search.{isTerminating, isTerminatingList}
+use Rattle.breaks.proofs.Ranges.{closed-below, closed-rest, closed-item}
 use Rattle.returns.proofs.Enough.{enough-defaults}
 use Rattle.returns.proofs.ByClass.{clausesEnd, opens-block, row-opens, clauses-ended, clauses-next}
-use Rattle.returns.proofs.Leaving.{any-apart, any-none, any-below}
-use Rattle.returns.proofs.Referring.{has-break-below}
+use Rattle.breaks.proofs.Leaving.{any-apart, any-none, any-below}
+use Rattle.breaks.proofs.Referring.{has-break-below}
 
 -- a Case or a Comm
 abbrev pub isClause : Class → Bool

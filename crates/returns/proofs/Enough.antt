@@ -18,8 +18,8 @@ use Rattle.rules.proofs.ClassRules.{opens-holds, by-rule}
 use Rattle.rules.proofs.Terminating.{any-default-more, any-default-none, terminating-never, terminating-always, terminating-labeled, terminating-statements}
 use Rattle.rules.proofs.Terminating.{terminating-clauses, terminating-ifElse, terminating-switch, terminating-select, terminating-for, list-none, list-last}
 use Rattle.rules.proofs.Terminating.{list-more, clauses-none, clauses-more}
-use Rattle.returns.specs.Search.{Closed}
-use Rattle.returns.proofs.Ranges.{closed-below, closed-rest}
+use Rattle.breaks.specs.Leaves.{Closed}
+use Rattle.breaks.proofs.Ranges.{closed-below, closed-rest}
 
 module _ {w p b : List ℕ} (body : Body w p b) where
   -- f steps answer as g do, where both are enough

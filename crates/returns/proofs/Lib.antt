@@ -1,9 +1,5 @@
-pub mod Ranges
 pub mod Enough
 pub mod ByClass
-pub mod Leaving
-pub mod Referring
-pub mod ByWords
 pub mod Calls
 pub mod Clauses
 pub mod RowRule

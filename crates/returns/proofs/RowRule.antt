@@ -22,11 +22,12 @@ use Rattle.rules.proofs.ByKind.{among, NoneOf, none-among, switches}
 use Rattle.rules.proofs.Classes.{no-block}
 use Rattle.rules.proofs.Shape.{opens}
 use Rattle.rules.proofs.ClassRules.{isNever, isAlways, child-rule}
-use Rattle.returns.specs.Search.{labelNumber, Closed, isTerminating, isTerminatingList, anyLeaves}
-use Rattle.returns.proofs.Ranges.{label-on, no-label-on, closed-below, label-after}
+use Rattle.breaks.specs.Leaves.{labelNumber, Closed, anyLeaves}
+use Rattle.returns.specs.Search.{isTerminating, isTerminatingList}
+use Rattle.breaks.proofs.Ranges.{label-on, no-label-on, closed-below, label-after}
 use Rattle.returns.proofs.ByClass.{row-settled, row-list, row-labeled, row-ifElse, row-for}
-use Rattle.returns.proofs.ByWords.{Tabled, labeled-kind, block-kind, else-kind, for-kind, switch-kind, select-kind}
-use Rattle.returns.proofs.Referring.{has-break-below}
+use Rattle.breaks.proofs.ByWords.{Tabled, labeled-kind, block-kind, else-kind, for-kind, switch-kind, select-kind}
+use Rattle.breaks.proofs.Referring.{has-break-below}
 use Rattle.returns.proofs.Calls as calls
 use Rattle.returns.proofs.Calls.{RowCall, ListCall, SwitchCall}
 

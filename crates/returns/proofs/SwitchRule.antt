@@ -14,8 +14,9 @@ use Rattle.rules.specs.Body.{Body}
 use Rattle.rules.proofs.Shape.{opens}
 use Rattle.rules.proofs.Nesting.{item-next, item-from}
 use Rattle.rules.proofs.Terminating.{isDefault}
-use Rattle.returns.specs.Search.{labelNumber, Closed, isTerminating, isTerminatingList, anyLeaves}
-use Rattle.returns.proofs.Ranges.{closed-rest}
+use Rattle.breaks.specs.Leaves.{labelNumber, Closed, anyLeaves}
+use Rattle.returns.specs.Search.{isTerminating, isTerminatingList}
+use Rattle.breaks.proofs.Ranges.{closed-rest}
 use Rattle.returns.proofs.Calls.{ListCall, list-call}
 use Rattle.returns.proofs.Clauses.{isClause, clause-list, left, clause-default, left-ended, left-open, left-broken, left-next, clauses-closed}
 use Rattle.returns.proofs.Clauses.{clause-of, left-start}

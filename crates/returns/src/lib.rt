@@ -1,5 +1,5 @@
 // Port of goscript's returns.rs: whether a body is terminating. The statement rule and the list rule
-// call each other, downward, and so do the two searches for a break.
+// call each other, downward. Its searches for a break are in crate breaks.
 use body::Checked;
 use names::Found;
 use names::NameNumber;
@@ -10,24 +10,14 @@ use rows::kinds;
 ghost use mathlib.Core.Path.{_≡_};
 ghost use mathlib.Core.Bool.{true, _||_};
 ghost use Prim.Native.Nat.{_<_};
-ghost use Rattle.rules.specs.Rows.{rowCount, kind, end};
+ghost use Rattle.rules.specs.Rows.{rowCount};
 ghost use Rattle.rules.specs.Class.{select, isSwitch, isStatement, class};
 ghost use Rattle.rules.specs.Labels.{isClass};
 ghost use Rattle.rules.specs.Body.{Sized, Detailed, Body};
 ghost use Rattle.rules.specs.Calls.{verdictCall};
 ghost use Rattle.returns.specs.Given.{given};
-ghost use Rattle.returns.specs.Search.{
-  labelNumber,
-  Closed,
-  Statements,
-  OneRowEmpties,
-  UnlessEmpty,
-  Lasts,
-  isTerminating,
-  isTerminatingList,
-  leaves,
-  anyLeaves,
-};
+ghost use Rattle.breaks.specs.Leaves.{labelNumber, Closed, Statements};
+ghost use Rattle.returns.specs.Search.{OneRowEmpties, UnlessEmpty, Lasts, isTerminating, isTerminatingList};
 
 pub enum Verdict {
     Refused(Refusal),
@@ -74,7 +64,7 @@ pub fn is_terminating(
             if rows::detail(rows, row) == details::WITH_CONDITION {
                 return false;
             }
-            !has_break_list(rows, pairs, bytes, first, end, label, true)
+            !breaks::has_break_list(rows, pairs, bytes, first, end, label, true)
         }
         _ => false,
     }
@@ -162,90 +152,12 @@ fn is_terminating_switch(
         if !is_terminating_list(rows, pairs, bytes, first, next) {
             return false;
         }
-        if has_break_list(rows, pairs, bytes, first, next, label, true) {
+        if breaks::has_break_list(rows, pairs, bytes, first, next, label, true) {
             return false;
         }
         c = next;
     }
     has_default
-}
-
-// Whether the Branch row is a break that goes to the labelled statement or, where `implicit`, to the
-// closest outer one.
-fn is_break(
-    rows: &[u32],
-    pairs: &[u32],
-    bytes: &[u8],
-    row: RowNumber,
-    label: NameNumber,
-    implicit: bool,
-) -> bool
-    requires { ⌜ Body (now rows) (now pairs) (now bytes) × (row .0 < rowCount (now rows)) × (kind (now rows) (row .0) ≡ 11) ⌝ }
-    ensures { λ r. ⌜ r ≡ leaves (now (rows .entry)) (now (pairs .entry)) (now (bytes .entry)) (row .0) (label .0) implicit (row .0) ⌝ }
-{
-    if rows::detail(rows, row) != details::BREAK {
-        return false;
-    }
-    let name = rows::name(rows, row);
-    if name.0 == 0 {
-        return implicit;
-    }
-    if label.0 == 0 {
-        return false;
-    }
-    names::same_name(pairs, bytes, name, label)
-}
-
-// Whether the statement is or contains a break that refers to the labelled statement around it or,
-// where `implicit`, to the closest outer one that a break can leave.
-fn has_break(
-    rows: &[u32],
-    pairs: &[u32],
-    bytes: &[u8],
-    row: RowNumber,
-    label: NameNumber,
-    implicit: bool,
-) -> bool
-    requires { ⌜ Body (now rows) (now pairs) (now bytes) × (row .0 < rowCount (now rows)) ⌝ }
-    ensures { λ r. ⌜ r ≡ anyLeaves (now (rows .entry)) (now (pairs .entry)) (now (bytes .entry)) (row .0) (end (now (rows .entry)) (row .0)) (label .0)
-        implicit ⌝ }
-{
-    let kind = rows::kind(rows, row);
-    if kind == kinds::BRANCH {
-        return is_break(rows, pairs, bytes, row, label, implicit);
-    }
-    let first = RowNumber(row.0 + 1);
-    let end = row.0 + rows::size(rows, row);
-    if kinds::is_breakable(kind) {
-        if label.0 == 0 {
-            return false;
-        }
-        return has_break_list(rows, pairs, bytes, first, end, label, false);
-    }
-    has_break_list(rows, pairs, bytes, first, end, label, implicit)
-}
-
-fn has_break_list(
-    rows: &[u32],
-    pairs: &[u32],
-    bytes: &[u8],
-    from: RowNumber,
-    end: usize,
-    label: NameNumber,
-    implicit: bool,
-) -> bool
-    requires { ⌜ Body (now rows) (now pairs) (now bytes) × Closed (now rows) (from .0) end ⌝ }
-    ensures { λ r. ⌜ r ≡ anyLeaves (now (rows .entry)) (now (pairs .entry)) (now (bytes .entry)) (from .0) end (label .0) implicit ⌝ }
-{
-    let mut c = from.0;
-    while c < end {
-        let item = RowNumber(c);
-        if has_break(rows, pairs, bytes, item, label, implicit) {
-            return true;
-        }
-        c = c + rows::size(rows, item);
-    }
-    false
 }
 
 // The verdict on a well-formed body; else the refusal.

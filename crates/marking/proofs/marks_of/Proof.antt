@@ -2,7 +2,7 @@
 -- Assumes nothing.
 use mathlib.Core.Path.{sym, _∙_, ap}
 use Rattle.rules.proofs.Facts.{body}
-use Rattle.returns.proofs.Ranges.{label-of-first}
+use Rattle.breaks.proofs.Ranges.{label-of-first}
 use Rattle.label.specs.Given.{given}
 use Rattle.marking.proofs.Together.{marks-refused, marks-answered}
 use borrow.Author.Needs.{needs}

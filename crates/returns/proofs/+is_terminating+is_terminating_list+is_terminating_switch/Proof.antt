@@ -26,7 +26,7 @@ use Rattle.returns.proofs.+is_terminating+is_terminating_list+is_termin
 use Rattle.returns.proofs.is_terminating_switch.Reads as is-terminating-switch
 use Rattle.returns.proofs.is_terminating_switch.Kinds as is-terminating-switch-kinds
 use Rattle.returns.proofs.+is_terminating+is_terminating_list+is_terminating_switch.Lts-is_terminating_switch as is-terminating-switch-lts
-use Rattle.returns.proofs.has_break_list.Reads as has-break-list-reads
+use Rattle.breaks.proofs.has_break_list.Reads as has-break-list-reads
 use Rattle.returns.proofs.last_item.Reads as last-item-reads
 use Rattle.rows.proofs.detail.Reads as detail-reads
 use Rattle.rows.proofs.kind.Reads as kind-reads

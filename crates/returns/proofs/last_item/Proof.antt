@@ -18,8 +18,9 @@ use Rattle.rules.proofs.Nesting.{item-next}
 use Rattle.rules.proofs.Around.{AllEmpty, all-empty}
 use Rattle.names.specs.declared.Found.{Found}
 use Rattle.names.specs.declared.Found.the-variants.{At, Nowhere}
-use Rattle.returns.specs.Search.{Closed, OneRowEmpties, UnlessEmpty, Lasts}
-use Rattle.returns.proofs.ByWords.{empty-kind}
+use Rattle.breaks.specs.Leaves.{Closed}
+use Rattle.returns.specs.Search.{OneRowEmpties, UnlessEmpty, Lasts}
+use Rattle.breaks.proofs.ByWords.{empty-kind}
 use Rattle.returns.proofs.last_item.Statement.{statement}
 use Rattle.returns.proofs.last_item.Tie as tie
 

@@ -12,7 +12,7 @@ use Rattle.rules.proofs.Facts as facts
 use Rattle.rules.proofs.Terminating.{verdict-is}
 use Rattle.body.specs.Given as body
 use Rattle.returns.specs.Search.{isTerminating}
-use Rattle.returns.proofs.Ranges.{label-of-first}
+use Rattle.breaks.proofs.Ranges.{label-of-first}
 use Rattle.returns.proofs.verdict_of.Statement.{statement}
 use Rattle.returns.proofs.verdict_of.Tie as tie
 

@@ -12,24 +12,24 @@ use Rattle.rules.specs.Rows.{rowCount, kind, detail, size, end}
 use Rattle.rules.specs.Class.{isBreakable, detailAllowed, classOf, class}
 use Rattle.rules.specs.Body.{Body}
 use Rattle.rules.proofs.Classes.{row-holding}
-use Rattle.returns.specs.Search.{Closed, leaves, anyLeaves}
-use Rattle.returns.proofs.Ranges.{closed-below, closed-rest, closed-item}
-use Rattle.returns.proofs.Leaving.{any-apart, any-none, any-unnamed, any-leaf, any-below, any-held}
-use Rattle.returns.proofs.ByWords.{breakable-words, other-no-break}
+use Rattle.breaks.specs.Leaves.{Closed, leaves, anyLeaves}
+use Rattle.breaks.proofs.Ranges.{closed-below, closed-rest, closed-item}
+use Rattle.breaks.proofs.Leaving.{any-apart, any-none, any-unnamed, any-leaf, any-below, any-held}
+use Rattle.breaks.proofs.ByWords.{breakable-words, other-no-break}
 use borrow.Fn.Kinds.{In}
 use borrow.Fn.PlainCycle.{Measures, is, falls, and}
-use Rattle.returns.proofs.has_break.Reads as has-break
-use Rattle.returns.proofs.has_break.Kinds as has-break-kinds
-use Rattle.returns.proofs.+has_break+has_break_list.Lts-has_break as has-break-lts
-use Rattle.returns.proofs.has_break_list.Reads as has-break-list
-use Rattle.returns.proofs.has_break_list.Kinds as has-break-list-kinds
-use Rattle.returns.proofs.+has_break+has_break_list.Lts-has_break_list as has-break-list-lts
-use Rattle.returns.proofs.is_break.Reads as is-break-reads
+use Rattle.breaks.proofs.has_break.Reads as has-break
+use Rattle.breaks.proofs.has_break.Kinds as has-break-kinds
+use Rattle.breaks.proofs.+has_break+has_break_list.Lts-has_break as has-break-lts
+use Rattle.breaks.proofs.has_break_list.Reads as has-break-list
+use Rattle.breaks.proofs.has_break_list.Kinds as has-break-list-kinds
+use Rattle.breaks.proofs.+has_break+has_break_list.Lts-has_break_list as has-break-list-lts
+use Rattle.breaks.proofs.is_break.Reads as is-break-reads
 use Rattle.rows.proofs.kind.Reads as kind-reads
 use Rattle.rows.proofs.kinds.is_breakable.Reads as is-breakable-reads
 use Rattle.rows.proofs.size.Reads as size-reads
-use Rattle.returns.proofs.+has_break+has_break_list.{statement}
-use Rattle.returns.proofs.+has_break+has_break_list.Tie.{close}
+use Rattle.breaks.proofs.+has_break+has_break_list.{statement}
+use Rattle.breaks.proofs.+has_break+has_break_list.Tie.{close}
 
 -- ---- the search at a row and below it
 

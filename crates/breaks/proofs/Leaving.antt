@@ -19,7 +19,7 @@ use Rattle.rules.proofs.Test.{case-of, case-found, clash, and-true, or-true as 
 use Rattle.rules.proofs.Scan.{lowest-none, lowest-found, highest-none, highest-found}
 use Rattle.rules.proofs.Every.{every, is-one}
 use Rattle.rules.proofs.ClassRules.{class-rule}
-use Rattle.returns.specs.Search.{exposed, leaves, anyLeaves}
+use Rattle.breaks.specs.Leaves.{exposed, leaves, anyLeaves}
 
 -- two tests that each follow from the other
 pub both : (s t : Bool) → (s ≡ true → t ≡ true) → (t ≡ true → s ≡ true) → s ≡ t

@@ -11,11 +11,11 @@ use Rattle.rules.specs.Rows.{detail, name}
 use Rattle.rules.specs.Class.{break}
 use Rattle.rules.specs.Names.{sameName}
 use Rattle.rules.specs.Labels.{isClass}
-use Rattle.returns.specs.Search.{leaves}
-use Rattle.returns.proofs.ByWords.{break-detail}
-use Rattle.returns.proofs.Leaving.{own-other, own-plain, own-unnamed, own-named}
-use Rattle.returns.proofs.is_break.Statement.{statement}
-use Rattle.returns.proofs.is_break.Tie as tie
+use Rattle.breaks.specs.Leaves.{leaves}
+use Rattle.breaks.proofs.ByWords.{break-detail}
+use Rattle.breaks.proofs.Leaving.{own-other, own-plain, own-unnamed, own-named}
+use Rattle.breaks.proofs.is_break.Statement.{statement}
+use Rattle.breaks.proofs.is_break.Tie as tie
 
 -- with d the row's detail as the code read it, and n its name
 module _ (s : tie.Start) {d : ℕ} (q : d ≡ detail (s .args .rows .now) (s .args .row .0)) where

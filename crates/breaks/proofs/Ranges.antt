@@ -17,7 +17,7 @@ use Rattle.rules.specs.Labels.{isClass}
 use Rattle.rules.proofs.Test.{case-of}
 use Rattle.rules.proofs.Every.{every, is-one}
 use Rattle.rules.proofs.ClassRules.{class-rule, child-rule}
-use Rattle.returns.specs.Search.{labelNumber, Closed, Statements}
+use Rattle.breaks.specs.Leaves.{labelNumber, Closed, Statements}
 
 -- ---- the label on a row
 module _ (w : List ℕ) where

@@ -19,9 +19,9 @@ use Rattle.rules.proofs.Around.{Innermost, innermost-found, innermost-last, inn
 use Rattle.rules.proofs.RowNames.{same-sym, labeled-named}
 use Rattle.rules.proofs.Terminating.{label-on as on-label-row, on-label, refers-inside, refers-innermost, refers-labelled, innermost-refers, label-refers}
 use Rattle.rules.proofs.Terminating.{no-break, some-break}
-use Rattle.returns.specs.Search.{labelNumber, anyLeaves}
-use Rattle.returns.proofs.Ranges.{label-of-first, label-on, no-label-on}
-use Rattle.returns.proofs.Leaving.{both, Leaves, plain, labelled, is-break, is-some, some-is}
+use Rattle.breaks.specs.Leaves.{labelNumber, anyLeaves}
+use Rattle.breaks.proofs.Ranges.{label-of-first, label-on, no-label-on}
+use Rattle.breaks.proofs.Leaving.{both, Leaves, plain, labelled, is-break, is-some, some-is}
 
 -- a row with a label number stands right after the Labeled row that it is the name of
 label-row : (w : List ℕ) (s : ℕ) → 0 < labelNumber w s → (t : ℕ) × (s ≡ suc t) × (class w t ≡ labeled)

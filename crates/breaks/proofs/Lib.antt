@@ -1,0 +1,4 @@
+pub mod Ranges
+pub mod Leaving
+pub mod Referring
+pub mod ByWords
