@@ -3,6 +3,7 @@
 ghost use mathlib.Core.Path.{_≡_};
 ghost use Prim.Native.Nat.{_+_, _*_, _≤_, _<_};
 ghost use lib.ListN.{length};
+ghost use Rattle.bodyfile.specs.Limits.{badStart, countRefusal};
 ghost use Rattle.bodyfile.specs.File.{word as wordAt, words as wordsAt, rows, names, bytes};
 
 fn wide(byte: u8) -> u32
@@ -38,4 +39,35 @@ pub fn said_length(file: &[u8]) -> u64
     ensures { λ r. ⌜ r ≡ 12 + rows (now (file .entry)) * 20 + names (now (file .entry)) * 8 + bytes (now (file .entry)) ⌝ }
 {
     12 + word(file, 0) as u64 * 20 + word(file, 4) as u64 * 8 + word(file, 8) as u64
+}
+
+// Refusal 0: no header, or another length than it says.
+pub fn bad_start(file: &[u8], total: u64) -> bool
+    ensures { λ r. ⌜ r ≡ badStart (now (file .entry)) total ⌝ }
+{
+    if file.len() < 12 {
+        return true;
+    }
+    said_length(file) != total
+}
+
+// The refusals that the counts decide: 1 for the rows, 2 for the names and their bytes, 0 for none.
+pub fn count_refusal(file: &[u8]) -> u32
+    requires { ⌜ 12 ≤ length (now file) ⌝ }
+    ensures { λ r. ⌜ r ≡ countRefusal (now (file .entry)) ⌝ }
+{
+    let rows = word(file, 0);
+    if rows == 0 {
+        return 1;
+    }
+    if 2000 < rows {
+        return 1;
+    }
+    if 500 < word(file, 4) {
+        return 2;
+    }
+    if 8000 < word(file, 8) {
+        return 2;
+    }
+    0
 }

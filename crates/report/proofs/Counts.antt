@@ -1,29 +1,26 @@
 -- A file whose counts are outside their limits is refused for them alone: the row words are as many as the rows need, the pair words as many as the names,
 -- and a file of the length that its header says has all its name bytes.
 -- Assumes nothing.
-use mathlib.Core.Path.{_≡_, refl, sym, _∙_, ap}
-use mathlib.Core.Bool.{Bool, true, false, _||_, not}
+use mathlib.Core.Path.{_≡_, _∙_, ap}
+use mathlib.Core.Bool.{true, false, _||_, not}
 use mathlib.Core.List.{List}
 use Prim.Native.Nat.{ℕ, _+_, _*_, _/_, _%_, _≤_, _<_}
 use native.Mathlib.Omega.{arith}
 use native.Mathlib.Decide.{decLt, ℕ-discrete}
 use lib.Dec.{ltb, eqb}
 use lib.ListN.{length, drop, length-take, length-drop}
-use borrow.Author.Tests.{ltb-false, eqb-false, lt-ltb, le-ltb, eq-eqb, ne-eqb}
+use borrow.Author.Tests.{lt-ltb, le-ltb, eq-eqb, ne-eqb}
 use Rattle.rules.specs.Names.{badNameWords}
 use Rattle.rules.specs.Refusals.{badRowWords}
 use Rattle.rules.proofs.Causes.{refused-at, bad-1, good-1, bad-2}
 use Rattle.rules.proofs.Each.{each-length}
-use Rattle.rules.proofs.Test.{case-of, clash, or-false}
+use Rattle.rules.proofs.Test.{case-of, clash}
 use Rattle.bodyfile.specs.File.{word, words, rows, names, bytes, rowWords, pairWords, nameBytes}
 use Rattle.report_lines.specs.Text.{refusedText}
 use Rattle.report.specs.Text.{bodyText}
-use Rattle.report.specs.Limits.{said, countRefusal, Within}
+use Rattle.bodyfile.specs.Limits.{said, countRefusal}
+use Rattle.bodyfile.proofs.Header.{or-last, rows-good, count-1, count-2, count-0}
 use Rattle.report.proofs.Marked.{text-refused}
-
-or-last : (a : Bool) → a || true ≡ true
-or-last true = refl
-or-last false = refl
 
 pub words-length : (f : List ℕ) (i n : ℕ) → length (words f i n) ≡ n
 unfolding words
@@ -106,59 +103,9 @@ module _ (f : List ℕ) where
         ]
   ]
 
-  rows-good : (eqb (rows f) 0 || ltb 2000 (rows f)) ≡ false → (0 < rows f) × (rows f ≤ 2000)
-  rows-good t =
-      let o = or-false (eqb (rows f) 0) (ltb 2000 (rows f)) t in
-      let z = eqb-false (rows f) 0 (o .0) in (omega arith, ltb-false 2000 (rows f) (o .1))
-
-  names-good : (ltb 500 (names f) || ltb 8000 (bytes f)) ≡ false → (names f ≤ 500) × (bytes f ≤ 8000)
-  names-good t =
-      let o = or-false (ltb 500 (names f)) (ltb 8000 (bytes f)) t in (ltb-false 500 (names f) (o .0), ltb-false 8000 (bytes f) (o .1))
-
-  count-1 : (eqb (rows f) 0 || ltb 2000 (rows f)) ≡ true → countRefusal f ≡ 1
-  unfolding countRefusal
-  count-1 t = rw (t, countRefusal)
-
-  count-2 : (eqb (rows f) 0 || ltb 2000 (rows f)) ≡ false → (ltb 500 (names f) || ltb 8000 (bytes f)) ≡ true → countRefusal f ≡ 2
-  unfolding countRefusal
-  count-2 t u = rw (t, u, countRefusal)
-
-  count-0 : (eqb (rows f) 0 || ltb 2000 (rows f)) ≡ false → (ltb 500 (names f) || ltb 8000 (bytes f)) ≡ false → countRefusal f ≡ 0
-  unfolding countRefusal
-  count-0 t u = rw (t, u, countRefusal)
-
-  -- the code's tests one by one
-  pub refuses-no-rows : rows f ≡ 0 → 1 ≡ countRefusal f
-  refuses-no-rows e = sym (count-1 (rw (eq-eqb (rows f) 0 e)))
-
-  pub refuses-rows : 2000 < rows f → 1 ≡ countRefusal f
-  refuses-rows h = sym (count-1 (rw (lt-ltb 2000 (rows f) h) (or-last (eqb (rows f) 0))))
-
-  module _ (z : rows f ≡ 0 → ⊥) (h : rows f ≤ 2000) where
-    rows-test : (eqb (rows f) 0 || ltb 2000 (rows f)) ≡ false
-    rows-test = rw (ne-eqb (rows f) 0 z, le-ltb 2000 (rows f) h)
-
-    pub refuses-names : 500 < names f → 2 ≡ countRefusal f
-    refuses-names l = sym (count-2 rows-test (rw (lt-ltb 500 (names f) l)))
-
-    pub refuses-bytes : 8000 < bytes f → 2 ≡ countRefusal f
-    refuses-bytes l = sym (count-2 rows-test (rw (lt-ltb 8000 (bytes f) l) (or-last (ltb 500 (names f)))))
-
-    pub refuses-none : names f ≤ 500 → bytes f ≤ 8000 → 0 ≡ countRefusal f
-    refuses-none l m = sym (count-0 rows-test (rw (le-ltb 500 (names f) l, le-ltb 8000 (bytes f) m)))
-
-  pub within : countRefusal f ≡ 0 → Within f
-  within e = case-of (eqb (rows f) 0 || ltb 2000 (rows f))
-      (λ t. absurd (clash (sym e ∙ count-1 t)))
-      (λ t. case-of (ltb 500 (names f) || ltb 8000 (bytes f))
-      (λ u. absurd (omega (arith, count-2 t u)))
-      (λ u.
-      let r = rows-good t in
-      let n = names-good u in record { some-rows = r .0; most-rows = r .1; most-names = n .0; most-bytes = n .1 }))
-
   pub counts-refused : (k : ℕ) → length f ≡ said f → k ≡ countRefusal f → (k ≡ 0 → ⊥) → refusedText k 0 ≡ bodyText (rowWords f) (pairWords f) (nameBytes f)
   counts-refused k l e z = case-of (eqb (rows f) 0 || ltb 2000 (rows f))
-      (λ t. ap (λ (n : ℕ). refusedText n 0) (e ∙ count-1 t) ∙ counts-1 (rows-bad t))
+      (λ t. ap (λ (n : ℕ). refusedText n 0) (e ∙ count-1 f t) ∙ counts-1 (rows-bad t))
       (λ t. case-of (ltb 500 (names f) || ltb 8000 (bytes f))
-      (λ u. ap (λ (n : ℕ). refusedText n 0) (e ∙ count-2 t u) ∙ counts-2 (rows-pass (rows-good t .0) (rows-good t .1)) (names-bad l u))
-      (λ u. absurd (z (e ∙ count-0 t u))))
+      (λ u. ap (λ (n : ℕ). refusedText n 0) (e ∙ count-2 f t u) ∙ counts-2 (rows-pass (rows-good f t .0) (rows-good f t .1)) (names-bad l u))
+      (λ u. absurd (z (e ∙ count-0 f t u))))

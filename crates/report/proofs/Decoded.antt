@@ -9,7 +9,7 @@ use lib.ListN.{length, take, drop, length-take}
 use lib.Seq.{length-take-le, take-at}
 use Rattle.bodyfile.specs.File.{words, rows, names, bytes, rowWords, pairWords, nameBytes}
 use Rattle.report.specs.Text.{bodyText}
-use Rattle.report.specs.Limits.{said, Within}
+use Rattle.bodyfile.specs.Limits.{said, Within}
 use Rattle.report.proofs.Counts.{words-length}
 
 pub words-read : (f : List ℕ) (i k : ℕ) (new rest old : List ℕ) → k ≤ length old → new ≡ words f i (length (take k old)) → take k (new ++ rest) ≡ words f i k

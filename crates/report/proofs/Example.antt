@@ -14,7 +14,8 @@ use Rattle.rules.proofs.Computed.{computed}
 use Rattle.bodyfile.specs.File.{words, badFile}
 use Rattle.report_lines.specs.Text.{decimal, sheetText, bindsText}
 use Rattle.report.specs.Text.{bodyText, marksText}
-use Rattle.report.specs.Limits.{badStart, countRefusal, startText}
+use Rattle.bodyfile.specs.Limits.{badStart, countRefusal}
+use Rattle.report.specs.Start.{startText}
 use Rattle.report.proofs.Files.{of-whole, uncounted-refused}
 
 -- words below 256 as bytes

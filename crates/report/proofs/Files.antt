@@ -11,13 +11,15 @@ use native.Mathlib.Decide.{decLt, ℕ-discrete}
 use lib.Dec.{ltb, eqb}
 use lib.ListN.{length, getD, take, length-take}
 use lib.Seq.{getD-take, take-all}
-use borrow.Author.Tests.{ltb-false, eqb-true, lt-ltb, le-ltb, eq-eqb, ne-eqb, not-false}
-use Rattle.rules.proofs.Test.{case-of, or-false}
+use borrow.Author.Tests.{lt-ltb, le-ltb, eq-eqb, ne-eqb}
+use Rattle.rules.proofs.Test.{case-of}
 use Rattle.bodyfile.specs.File.{word, rows, names, bytes, rowWords, pairWords, nameBytes, badFile}
 use Rattle.report_lines.specs.Text.{refusedText}
 use Rattle.report.specs.Text.{bodyText, marksText}
-use Rattle.report.specs.Limits.{said, badStart, countRefusal, startText}
-use Rattle.report.proofs.Counts.{within, counts-refused}
+use Rattle.bodyfile.specs.Limits.{said, badStart, countRefusal}
+use Rattle.bodyfile.proofs.Header.{start-passes, within}
+use Rattle.report.specs.Start.{startText}
+use Rattle.report.proofs.Counts.{counts-refused}
 
 -- ---- the output
 marks-bad : (f : List ℕ) → badFile f ≡ true → refusedText 0 0 ≡ marksText f
@@ -27,25 +29,6 @@ marks-bad f e = rw (e, marksText)
 marks-body : (f : List ℕ) → badFile f ≡ false → bodyText (rowWords f) (pairWords f) (nameBytes f) ≡ marksText f
 unfolding marksText
 marks-body f e = rw (e, marksText)
-
-eqb-sym : (a b : ℕ) → eqb a b ≡ eqb b a
-eqb-sym a b = elim (ℕ-discrete a b) [ yes e ↦ eq-eqb a b e ∙ sym (eq-eqb b a (sym e)) | no n ↦ ne-eqb a b n ∙ sym (ne-eqb b a (λ e. n (sym e))) ]
-
--- ---- a start that passes
-pub start-passes : (file : List ℕ) (n : ℕ) → badStart file n ≡ false → (12 ≤ length file) × (n ≡ said file)
-unfolding badStart
-start-passes file n e =
-    let o = or-false (ltb (length file) 12) (not (eqb n (said file))) e in
-    (ltb-false (length file) 12 (o .0), eqb-true n (said file) (not-false (eqb n (said file)) (o .1)))
-
--- the code's two tests
-pub start-short : (file : List ℕ) (n : ℕ) → length file < 12 → true ≡ badStart file n
-unfolding badStart
-start-short file n h = rw (lt-ltb (length file) 12 h, badStart)
-
-pub start-length : (file : List ℕ) (n k : ℕ) → 12 ≤ length file → k ≡ said file → not (eqb k n) ≡ badStart file n
-unfolding badStart
-start-length file n k h e = rw (le-ltb (length file) 12 h, badStart) (ap not (eqb-sym k n ∙ ap (eqb n) e))
 
 abbrev byCounts : ℕ → ℕ → ℕ → ℕ
 byCounts r n b = elim (eqb r 0 || ltb 2000 r) [ true ↦ 1 | false ↦ elim (ltb 500 n || ltb 8000 b) [ true ↦ 2 | false ↦ 0 ] ]

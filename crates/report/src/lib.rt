@@ -11,7 +11,8 @@ ghost use Rattle.names.specs.Place.{place};
 ghost use Rattle.report_lines.specs.Text.{bindsText, placedText, verdictText};
 ghost use Rattle.report.specs.Text.{bodyText};
 ghost use Rattle.report_lines.specs.Lines.{sheetLines};
-ghost use Rattle.report.specs.Limits.{said, badStart, countRefusal, Within, startText};
+ghost use Rattle.bodyfile.specs.Limits.{said, Within};
+ghost use Rattle.report.specs.Start.{startText};
 
 // The longest file of a body that isn't refused for its counts: 2,000 rows, 500 names, 8,000 bytes.
 pub const LONGEST: usize = 52012;
@@ -86,47 +87,16 @@ fn file_text(file: &[u8], out: &mut [u8]) -> usize
     decoded_text(file, &mut row_words, &mut pair_words, out)
 }
 
-// Refusal 0: no header, or another length than it says.
-fn bad_start(file: &[u8], length: u64) -> bool
-    ensures { λ r. ⌜ r ≡ badStart (now (file .entry)) length ⌝ }
-{
-    if file.len() < 12 {
-        return true;
-    }
-    bodyfile::said_length(file) != length
-}
-
-// The refusals that the counts decide: 1 for the rows, 2 for the names and their bytes, 0 for none.
-fn count_refusal(file: &[u8]) -> u32
-    requires { ⌜ 12 ≤ lengthOf (now file) ⌝ }
-    ensures { λ r. ⌜ r ≡ countRefusal (now (file .entry)) ⌝ }
-{
-    let rows = bodyfile::word(file, 0);
-    if rows == 0 {
-        return 1;
-    }
-    if 2000 < rows {
-        return 1;
-    }
-    if 500 < bodyfile::word(file, 4) {
-        return 2;
-    }
-    if 8000 < bodyfile::word(file, 8) {
-        return 2;
-    }
-    0
-}
-
 // The output for the file of a body, of which `file` is the whole, or the first 52,012 bytes where
 // it is longer; `length` is the length of the whole.
 pub fn report(file: &[u8], length: u64, out: &mut [u8; ROOM]) -> usize
     ensures text { λ r. ⌜ take r (now (out .exit)) ≡ startText (now (file .entry)) length ⌝ }
     ensures counts { λ r. ⌜ Counts r (now (out .exit)) ⌝ }
 {
-    if bad_start(file, length) {
+    if bodyfile::bad_start(file, length) {
         return report_lines::refused_text(0, 0, out);
     }
-    let refusal = count_refusal(file);
+    let refusal = bodyfile::count_refusal(file);
     if refusal != 0 {
         return report_lines::refused_text(refusal, 0, out);
     }

@@ -2,8 +2,8 @@
 -- Assumes nothing.
 use mathlib.Core.Path.{sym, _∙_}
 use native.Mathlib.Omega.{arith}
-use Rattle.report.proofs.Counts.{within}
-use Rattle.report.proofs.Files.{start-passes, text-bad, text-counts, text-part, text-whole}
+use Rattle.bodyfile.proofs.Header.{start-passes, within}
+use Rattle.report.proofs.Files.{text-bad, text-counts, text-part, text-whole}
 use borrow.Author.Needs.{needs}
 use Rattle.report.proofs.report.Statement.{statement}
 use Rattle.report.proofs.report.Tie as tie

@@ -1,10 +1,10 @@
 -- The two tests are those of the definition.
 -- Assumes nothing.
-use Rattle.report.proofs.Files.{start-short, start-length}
+use Rattle.bodyfile.proofs.Header.{start-short, start-length}
 use native.Mathlib.Omega.{arith}
 use borrow.Author.Needs.{needs}
-use Rattle.report.proofs.bad_start.Statement.{statement}
-use Rattle.report.proofs.bad_start.Tie as tie
+use Rattle.bodyfile.proofs.bad_start.Statement.{statement}
+use Rattle.bodyfile.proofs.bad_start.Tie as tie
 
 returns : tie.Need-returns
 returns c = start-short _ _ (omega arith)

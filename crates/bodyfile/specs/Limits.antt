@@ -2,12 +2,10 @@
 -- Assumes nothing.
 use mathlib.Core.Bool.{Bool, true, false, _||_, not}
 use mathlib.Core.List.{List}
-use Prim.Native.Nat.{ℕ, zero, suc, _+_, _*_, _≤_, _<_}
+use Prim.Native.Nat.{ℕ, _+_, _*_, _≤_, _<_}
 use lib.Dec.{ltb, eqb}
 use lib.ListN.{length}
-use Rattle.bodyfile.specs.File.{rows, names, bytes, rowWords, pairWords, nameBytes}
-use Rattle.report_lines.specs.Text.{refusedText}
-use Rattle.report.specs.Text.{bodyText}
+use Rattle.bodyfile.specs.File.{rows, names, bytes}
 
 -- the length that the header says
 abbrev pub said : List ℕ → ℕ
@@ -26,17 +24,3 @@ pub record Within (f : List ℕ) : Type 0 where
   pub most-rows : rows f ≤ 2000
   pub most-names : names f ≤ 500
   pub most-bytes : bytes f ≤ 8000
-
--- ---- the output, from what was read of a file: its first bytes, and its length
-
--- Refusal 0 where the header is missing or says another length; then the refusals of the counts, which need no more than the header; then 0 where the
--- first bytes aren't the whole file; else the output for the body. Of the first 52,012 bytes of a file and its length this is what `marks` prints for the
--- file (`of-whole`).
-unfoldable pub startText : List ℕ → ℕ → List ℕ
-startText start total = elim (badStart start total) [
-  | true ↦ refusedText 0 0
-  | false ↦ elim (countRefusal start) [
-    | suc k ↦ refusedText (suc k) 0
-    | zero ↦ elim (eqb (length start) total) [ false ↦ refusedText 0 0 | true ↦ bodyText (rowWords start) (pairWords start) (nameBytes start) ]
-  ]
-]

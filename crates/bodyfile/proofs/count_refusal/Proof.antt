@@ -2,10 +2,10 @@
 -- Assumes nothing.
 use native.Mathlib.Omega.{arith}
 use denote.Ref.{now}
-use Rattle.report.proofs.Counts.{refuses-no-rows, refuses-rows, refuses-names, refuses-bytes, refuses-none}
+use Rattle.bodyfile.proofs.Header.{refuses-no-rows, refuses-rows, refuses-names, refuses-bytes, refuses-none}
 use borrow.Author.Needs.{needs}
-use Rattle.report.proofs.count_refusal.Statement.{statement}
-use Rattle.report.proofs.count_refusal.Tie as tie
+use Rattle.bodyfile.proofs.count_refusal.Statement.{statement}
+use Rattle.bodyfile.proofs.count_refusal.Tie as tie
 
 word-requires : tie.Need-word-requires
 word-requires c κs = search needs
