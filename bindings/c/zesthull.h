@@ -22,8 +22,8 @@
 extern "C" {
 #endif
 
-/* 0.8.1: major * 1,000,000 + minor * 1,000 + patch. */
-#define ZESTHULL_VERSION 8001
+/* 0.9.0: major * 1,000,000 + minor * 1,000 + patch. */
+#define ZESTHULL_VERSION 9000
 
 enum zesthull_refusals {
     ZESTHULL_NONE = 0,

@@ -39,6 +39,9 @@ pub mod Ends
 pub mod Final
 pub mod Onward
 pub mod Lists
+pub mod TallyBodies
+pub mod Tally
+pub mod TallyUsed
 pub mod Destinations
 pub mod RouteSteps
 pub mod RouteLaw

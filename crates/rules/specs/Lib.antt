@@ -11,4 +11,5 @@ pub mod Verdict
 pub mod Runner
 pub mod Calls
 pub mod Law
+pub mod Tally
 pub mod Bodies

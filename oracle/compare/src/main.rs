@@ -9,6 +9,7 @@ mod lent;
 mod letters;
 mod names;
 mod numbers;
+mod occurred;
 mod options;
 mod phases;
 mod port;
@@ -49,9 +50,9 @@ fn compare(options: &options::Options) -> ExitCode {
         return ExitCode::FAILURE;
     }
     table::show(&run.lines);
-    run.tally.show();
+    run.occurred.show();
     run.kinds.show();
-    let missing = run.tally.missing();
+    let missing = run.occurred.missing();
     if missing.is_empty() {
         return ExitCode::SUCCESS;
     }

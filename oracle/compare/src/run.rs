@@ -3,14 +3,14 @@
 use crate::difference::Difference;
 use crate::failure::{Case, Failure};
 use crate::kinds::Kinds;
+use crate::occurred::Occurred;
 use crate::progress::Progress;
-use crate::tally::Tally;
 use crate::{well_formed, words};
 use oracle::{Body, Words};
 
 #[derive(Default)]
 pub struct Run {
-    pub tally: Tally,
+    pub occurred: Occurred,
     pub kinds: Kinds,
     pub lines: Vec<Line>,
 }
@@ -67,7 +67,7 @@ impl Phase<'_> {
             Ok(words::Seen::WellFormed(body, seen)) => self.well_formed(&body, &seen),
             Ok(words::Seen::Refused(number)) => {
                 self.line.refused += 1;
-                self.run.tally.refused(number);
+                self.run.occurred.refused(number);
             }
             Err(difference) => return Err(self.failure(Case::Words(words.clone()), difference)),
         }
@@ -76,7 +76,7 @@ impl Phase<'_> {
     }
 
     fn well_formed(&mut self, body: &Body, seen: &well_formed::Seen) {
-        self.run.tally.well_formed(body, seen);
+        self.run.occurred.well_formed(body, seen);
         self.run.kinds.note(body, &seen.stock.kinds);
     }
 

@@ -1,84 +1,51 @@
-//! What occurred, so that a comparison that never saw a case can say so.
+//! Document 02, U1: the labelled branches of a body add up, counted from its
+//! rows and from goscript's own answer.
 
-use crate::numbers::grouped;
-use crate::well_formed;
-use oracle::{Body, Marks};
+use crate::difference::{Checked, Difference};
+use oracle::{kind, Answer, Body};
 
-#[derive(Default)]
+#[derive(Clone, Copy, Default)]
 pub struct Tally {
-    /// Sheet rows of each code.
-    codes: [u64; 10],
-    /// Rows of each kind in well-formed bodies.
-    kinds: [u64; 21],
-    /// Bodies and words with each refusal; 0 is none.
-    refusals: [u64; 8],
-    /// Bodies badly placed and well placed.
-    placed: [u64; 2],
-    /// Bodies with verdict no and yes.
-    verdicts: [u64; 2],
-    /// Bodies on which stock had to be equalled.
-    same_labels: u64,
-    same_verdict: u64,
+    /// Branch rows with a name.
+    pub labelled: u64,
+    /// Branch rows with a nonzero binding.
+    pub bound: u64,
+    /// Sheet rows with the codes 4 to 8.
+    pub unbound: u64,
 }
 
 impl Tally {
-    pub fn well_formed(&mut self, body: &Body, seen: &well_formed::Seen) {
-        let Marks { answer, badly_placed } = &seen.marks;
-        for row in &answer.sheet {
-            self.codes[row[0] as usize] += 1;
+    fn of(body: &Body, answer: &Answer) -> Tally {
+        let branches = || (0..).zip(&body.rows).filter(|(_, row)| row[0] == kind::BRANCH);
+        Tally {
+            labelled: branches().filter(|(_, row)| row[3] != 0).count() as u64,
+            bound: branches().filter(|&(r, _): &(usize, _)| answer.bindings[r] != 0).count() as u64,
+            unbound: answer.sheet.iter().filter(|row| (4..=8).contains(&row[0])).count() as u64,
         }
-        for row in &body.rows {
-            self.kinds[row[0] as usize] += 1;
-        }
-        self.refusals[0] += 1;
-        // Every well-formed body is also tried with buffers too short.
-        self.refusals[7] += 1;
-        self.placed[badly_placed.is_none() as usize] += 1;
-        self.verdicts[answer.terminating as usize] += 1;
-        self.same_labels += seen.stock.same_labels as u64;
-        self.same_verdict += seen.stock.same_verdict as u64;
     }
+}
 
-    pub fn refused(&mut self, number: u32) {
-        self.refusals[number as usize] += 1;
+/// The tally of goscript's answer; a difference unless it adds up.
+pub fn check(body: &Body, answer: &Answer) -> Checked<Tally> {
+    let tally = Tally::of(body, answer);
+    let Tally { labelled, bound, unbound } = tally;
+    match labelled == bound + unbound {
+        true => Ok(tally),
+        false => Err(Difference {
+            what: format!("{labelled} labelled branches, {bound} bound, {unbound} on the sheet"),
+            port: String::new(),
+            oracle: String::new(),
+        }),
     }
+}
 
-    /// What should have occurred and didn't.
-    pub fn missing(&self) -> Vec<String> {
-        let mut missing = vec![];
-        let mut look = |name: &str, first: usize, counts: &[u64]| {
-            for (i, _) in counts.iter().enumerate().filter(|(_, &count)| count == 0) {
-                missing.push(format!("{name} {}", first + i));
-            }
-        };
-        look("code", 1, &self.codes[1..]);
-        look("kind", 0, &self.kinds);
-        look("refusal", 1, &self.refusals[1..]);
-        look("placing (0 bad, 1 well)", 0, &self.placed);
-        look("verdict (0 no, 1 yes)", 0, &self.verdicts);
-        look("domain of stock's", 1, &[self.same_labels, self.same_verdict]);
-        missing
-    }
-
-    pub fn show(&self) {
-        let list = |first: usize, counts: &[u64]| -> String {
-            let each = counts.iter().enumerate();
-            let texts = each.map(|(i, &count)| format!("{}: {}", first + i, grouped(count)));
-            texts.collect::<Vec<String>>().join("  ")
-        };
-        println!("\nOccurred in well-formed bodies");
-        println!("  sheet rows of code  {}", list(1, &self.codes[1..]));
-        println!("  rows of kind  {}", list(0, &self.kinds));
-        println!(
-            "  badly placed {}, well placed {}",
-            grouped(self.placed[0]),
-            grouped(self.placed[1])
-        );
-        println!("  verdict no {}, yes {}", grouped(self.verdicts[0]), grouped(self.verdicts[1]));
-        println!("Not refused: {}. Refused with", grouped(self.refusals[0]));
-        println!("  number  {}", list(1, &self.refusals[1..]));
-        println!("Stock had to be equalled, and is, in");
-        println!("  sheet and bindings on {} bodies", grouped(self.same_labels));
-        println!("  verdict on {} bodies", grouped(self.same_verdict));
-    }
+#[test]
+fn a_branch_that_is_nowhere_is_a_difference() {
+    // { goto A }
+    let rows = vec![[12, 0, 1, 0, 2], [11, 2, 2, 1, 1]];
+    let body = Body { rows, pairs: vec![[0, 1]], bytes: b"A".to_vec() };
+    let answer = |sheet: Vec<[u32; 4]>| Answer { sheet, bindings: vec![0, 0], terminating: true };
+    assert!(check(&body, &answer(vec![[8, 2, 1, 0]])).is_ok());
+    assert!(check(&body, &answer(vec![[9, 2, 1, 0]])).is_err());
+    assert!(check(&body, &answer(vec![])).is_err());
 }

@@ -5,6 +5,7 @@ use crate::lent::Lent;
 use crate::names;
 use crate::port::{at_once, lend, one_by_one, refusal_text};
 use crate::stock::{self, Beside};
+use crate::tally::{self, Tally};
 use oracle::{Body, Marks};
 use zesthull::Refusal;
 
@@ -17,6 +18,7 @@ const TOO_SHORT: Refusal = Refusal { number: 7, index: 0 };
 pub struct Seen {
     pub marks: Marks,
     pub stock: Beside,
+    pub tally: Tally,
 }
 
 pub fn check(body: &Body) -> Checked<Seen> {
@@ -32,7 +34,8 @@ pub fn check(body: &Body) -> Checked<Seen> {
     }
     names::check(body.pairs.as_flattened(), &body.bytes)?;
     let stock = stock::check(body, &marks.answer)?;
-    Ok(Seen { marks, stock })
+    let tally = tally::check(body, &marks.answer)?;
+    Ok(Seen { marks, stock, tally })
 }
 
 type Call = fn(zesthull::Body, &mut Lent) -> Result<Marks, Refusal>;

@@ -1,0 +1,94 @@
+//! What occurred, so that a comparison that never saw a case can say so.
+
+use crate::numbers::grouped;
+use crate::tally::Tally;
+use crate::well_formed;
+use oracle::{Body, Marks};
+
+#[derive(Default)]
+pub struct Occurred {
+    /// Sheet rows of each code.
+    codes: [u64; 10],
+    /// Rows of each kind in well-formed bodies.
+    kinds: [u64; 21],
+    /// Bodies and words with each refusal; 0 is none.
+    refusals: [u64; 8],
+    /// Bodies badly placed and well placed.
+    placed: [u64; 2],
+    /// Bodies with verdict no and yes.
+    verdicts: [u64; 2],
+    /// Bodies on which stock had to be equalled.
+    same_labels: u64,
+    same_verdict: u64,
+    /// The labelled branches of all bodies.
+    tally: Tally,
+}
+
+impl Occurred {
+    pub fn well_formed(&mut self, body: &Body, seen: &well_formed::Seen) {
+        let Marks { answer, badly_placed } = &seen.marks;
+        for row in &answer.sheet {
+            self.codes[row[0] as usize] += 1;
+        }
+        for row in &body.rows {
+            self.kinds[row[0] as usize] += 1;
+        }
+        self.refusals[0] += 1;
+        // Every well-formed body is also tried with buffers too short.
+        self.refusals[7] += 1;
+        self.placed[badly_placed.is_none() as usize] += 1;
+        self.verdicts[answer.terminating as usize] += 1;
+        self.same_labels += seen.stock.same_labels as u64;
+        self.same_verdict += seen.stock.same_verdict as u64;
+        self.tally.labelled += seen.tally.labelled;
+        self.tally.bound += seen.tally.bound;
+        self.tally.unbound += seen.tally.unbound;
+    }
+
+    pub fn refused(&mut self, number: u32) {
+        self.refusals[number as usize] += 1;
+    }
+
+    /// What should have occurred and didn't.
+    pub fn missing(&self) -> Vec<String> {
+        let mut missing = vec![];
+        let mut look = |name: &str, first: usize, counts: &[u64]| {
+            for (i, _) in counts.iter().enumerate().filter(|(_, &count)| count == 0) {
+                missing.push(format!("{name} {}", first + i));
+            }
+        };
+        look("code", 1, &self.codes[1..]);
+        look("kind", 0, &self.kinds);
+        look("refusal", 1, &self.refusals[1..]);
+        look("placing (0 bad, 1 well)", 0, &self.placed);
+        look("verdict (0 no, 1 yes)", 0, &self.verdicts);
+        look("domain of stock's", 1, &[self.same_labels, self.same_verdict]);
+        look("labelled branch (1 bound, 2 not)", 1, &[self.tally.bound, self.tally.unbound]);
+        missing
+    }
+
+    pub fn show(&self) {
+        let list = |first: usize, counts: &[u64]| -> String {
+            let each = counts.iter().enumerate();
+            let texts = each.map(|(i, &count)| format!("{}: {}", first + i, grouped(count)));
+            texts.collect::<Vec<String>>().join("  ")
+        };
+        println!("\nOccurred in well-formed bodies");
+        println!("  sheet rows of code  {}", list(1, &self.codes[1..]));
+        println!("  rows of kind  {}", list(0, &self.kinds));
+        println!(
+            "  badly placed {}, well placed {}",
+            grouped(self.placed[0]),
+            grouped(self.placed[1])
+        );
+        println!("  verdict no {}, yes {}", grouped(self.verdicts[0]), grouped(self.verdicts[1]));
+        println!("Not refused: {}. Refused with", grouped(self.refusals[0]));
+        println!("  number  {}", list(1, &self.refusals[1..]));
+        println!("Stock had to be equalled, and is, in");
+        println!("  sheet and bindings on {} bodies", grouped(self.same_labels));
+        println!("  verdict on {} bodies", grouped(self.same_verdict));
+        let Tally { labelled, bound, unbound } = self.tally;
+        let [labelled, bound, unbound] = [labelled, bound, unbound].map(grouped);
+        println!("Labelled branches {labelled}: bound {bound}, on the sheet with 4 to 8 {unbound}");
+    }
+}
