@@ -8,9 +8,9 @@ use Prim.Native.Nat.{ℕ, _+_, _<_, _≤_}
 use native.Mathlib.Omega.{arith}
 use native.Mathlib.Decide.{ℕ-discrete}
 use Rattle.rules.specs.Rows.{rowCount}
+use Rattle.rules.specs.Body.{Formed}
 use Rattle.rules.specs.Placing.{badlyPlaced, placing}
 use Rattle.rules.proofs.Scan.{none-lowest}
-use Rattle.placing.specs.Reach.{Formed}
 
 -- none of the rows before r is badly placed
 abbrev pub NoneBad : List ℕ → ℕ → Type 0

@@ -8,14 +8,10 @@ use Prim.Native.Nat.{ℕ, _≤_, _<_}
 use lib.ListN.{length}
 use Rattle.rules.specs.Rows.{rowCount, kind, detail, name, end}
 use Rattle.rules.specs.Class.{Class, class}
-use Rattle.rules.specs.Body.{Body}
+use Rattle.rules.specs.Body.{Formed}
 use Rattle.lists.specs.Listed.{Listed}
 
--- the rows of a well-formed body
-abbrev pub Formed : List ℕ → Type 0
-Formed w = (p : List ℕ) × (b : List ℕ) × Body w p b
-
--- and each row's list
+-- the rows of a well-formed body, and each row's list
 pub record FormedLists (w l : List ℕ) : Type 0 where
   pub formed : Formed w
   pub listed : Listed w l

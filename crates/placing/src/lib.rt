@@ -15,13 +15,13 @@ ghost use Prim.Native.Nat.{_≤_, _<_};
 ghost use lib.ListN.{length};
 ghost use Rattle.rules.specs.Rows.{rowCount, kind, name};
 ghost use Rattle.rules.specs.Class.{isBreakable, isLoop, isStatement, class};
-ghost use Rattle.rules.specs.Body.{Detailed};
+ghost use Rattle.rules.specs.Body.{Detailed, Formed};
 ghost use Rattle.rules.specs.Scope.{onlyEmpty};
 ghost use Rattle.rules.specs.Placing.{endsCase, wellPlaced, badlyPlaced, placing};
 ghost use Rattle.rules.specs.Calls.{placingCall};
 ghost use Rattle.names.specs.Place.{place};
 ghost use Rattle.placing.specs.Given.{given};
-ghost use Rattle.placing.specs.Reach.{Formed, FormedLists, Falls, Reach, Later};
+ghost use Rattle.placing.specs.Reach.{FormedLists, Falls, Reach, Later};
 ghost use Rattle.placing.specs.Searched.{Searched};
 
 pub enum Placing {

@@ -68,3 +68,7 @@ pub record Body (w p b : List ℕ) : Type 0 where
   pub one-block : (r : ℕ) → r < rowCount w → holding (class w r) ≡ body → OneChild w r
   pub two-parts : (r : ℕ) → r < rowCount w → holding (class w r) ≡ branches → TwoChildren w r
   pub shallow : (r : ℕ) → r < rowCount w → depth w r ≤ 100
+
+-- the rows of a well-formed body, whatever names are lent with them
+abbrev pub Formed : List ℕ → Type 0
+Formed w = (p : List ℕ) × (b : List ℕ) × Body w p b
