@@ -1,6 +1,6 @@
 -- A Branch is well placed by its detail, which says its class; every other row is well placed; a row with a name is not badly placed.
 -- Assumes nothing.
-use mathlib.Core.Path.{_≡_, refl, sym, _∙_, ap}
+use mathlib.Core.Path.{_≡_, refl, sym, _∙_}
 use mathlib.Core.Bool.{true, false, not, and-false}
 use mathlib.Core.List.{List, [], _∷_}
 use Prim.Native.Nat.{ℕ}
@@ -8,38 +8,36 @@ use native.Mathlib.Omega.{arith}
 use lib.Dec.{eqb}
 use borrow.Author.Tests.{ne-eqb}
 use Rattle.rules.specs.Rows.{kind, detail, name}
-use Rattle.rules.specs.Class.{Class, break, continue, goto, fallthrough, oneOf, isBranch, isBreakable, isLoop, isStatement, detailAllowed, classOf, base, class}
+use Rattle.rules.specs.Class.{Class, break, continue, goto, fallthrough, oneOf, isBranch, isBreakable, isLoop, isStatement, detailAllowed, classOf, class}
 use Rattle.rules.specs.Scope.{innermost}
 use Rattle.rules.specs.Labels.{isSome}
 use Rattle.rules.specs.Placing.{endsCase, wellPlaced, badlyPlaced}
 use Rattle.rules.proofs.Test.{clash}
 use Rattle.rules.proofs.Details.{allowed-small}
 use Rattle.rules.proofs.ByKind.{NoneOf, kind-jump}
-use Rattle.rules.proofs.Classes.{no-block}
 use Rattle.rules.proofs.ClassTests.{one-not}
-use Rattle.rules.proofs.Lists.{own-branch, by-words}
+use Rattle.rules.proofs.Lists.{own-branch, branch-class, by-words}
 
 -- ---- a Branch, by its detail
 module _ (w : List ℕ) (r d : ℕ) (a : detailAllowed (kind w r) (detail w r) ≡ true) (k : kind w r ≡ 11) (i : d ≡ detail w r) where
-  branch-class : (n : ℕ) → d ≡ n → class w r ≡ classOf 11 n
-  unfolding base
-  branch-class n e = no-block w r a (ap (λ (m : ℕ). eqb m 12) k) ∙ ap (λ (m : ℕ). classOf m (detail w r)) k ∙ ap (classOf 11) (sym i ∙ e)
+  by-detail : (n : ℕ) → d ≡ n → class w r ≡ classOf 11 n
+  by-detail n = branch-class w r d n a k i
 
   pub place-break : d ≡ 0 → isSome (innermost w isBreakable r) ≡ wellPlaced w r
   unfolding classOf wellPlaced
-  place-break e = let b : class w r ≡ break = branch-class 0 e in rw (b, wellPlaced)
+  place-break e = let b : class w r ≡ break = by-detail 0 e in rw (b, wellPlaced)
 
   pub place-continue : d ≡ 1 → isSome (innermost w isLoop r) ≡ wellPlaced w r
   unfolding classOf wellPlaced
-  place-continue e = let b : class w r ≡ continue = branch-class 1 e in rw (b, wellPlaced, b)
+  place-continue e = let b : class w r ≡ continue = by-detail 1 e in rw (b, wellPlaced, b)
 
   pub place-fallthrough : d ≡ 3 → endsCase w r ≡ wellPlaced w r
   unfolding classOf wellPlaced
-  place-fallthrough e = let b : class w r ≡ fallthrough = branch-class 3 e in rw (b, wellPlaced, b, b)
+  place-fallthrough e = let b : class w r ≡ fallthrough = by-detail 3 e in rw (b, wellPlaced, b, b)
 
   pub statement-fallthrough : d ≡ 3 → isStatement (class w r) ≡ true
   unfolding classOf
-  statement-fallthrough e = let b : class w r ≡ fallthrough = branch-class 3 e in rw b
+  statement-fallthrough e = let b : class w r ≡ fallthrough = by-detail 3 e in rw b
 
   pub place-goto : NoneOf (3 ∷ 1 ∷ 0 ∷ []) d → true ≡ wellPlaced w r
   unfolding classOf wellPlaced
@@ -49,7 +47,7 @@ module _ (w : List ℕ) (r d : ℕ) (a : detailAllowed (kind w r) (detail w r) �
       let y = n .0 .1 in
       let z = n .0 .0 .1 in
       let e : d ≡ 2 = omega arith in
-      let b : class w r ≡ goto = branch-class 2 e in
+      let b : class w r ≡ goto = by-detail 2 e in
       rw (b, wellPlaced, b, b)
 
 -- ---- every row

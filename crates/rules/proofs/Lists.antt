@@ -20,13 +20,14 @@ use Rattle.rules.proofs.Test.{case-of, case-found, clash, and-true}
 use Rattle.rules.proofs.Scan.{none-highest, found-highest}
 use Rattle.rules.proofs.Every.{every, same, same-eq, classAt, of-classes}
 use Rattle.rules.proofs.ByKind.{kind-jump}
+use Rattle.rules.proofs.Classes.{no-block}
 use Rattle.rules.proofs.Nesting.{item-before, item-from, child-around, ends-before}
 use Rattle.rules.proofs.ClassRules.{class-rule, child-rule, parent-rule}
 use Rattle.rules.proofs.Around.{around-true, true-around, Innermost, innermost-found, innermost-last, innermost-none}
 use Rattle.rules.proofs.Final.{parent-in}
 
 -- ---- tests that do not tell a Block of a switch or Select apart
-own-words : (P : Class → Bool) → every 23 (λ i. every 23 (λ j. same (P (following (classAt i) (classAt j))) (P (classAt j)))) ≡ true
+pub own-words : (P : Class → Bool) → every 23 (λ i. every 23 (λ j. same (P (following (classAt i) (classAt j))) (P (classAt j)))) ≡ true
     → (w : List ℕ) (r : ℕ) → P (class w r) ≡ P (base w r)
 unfolding class
 own-words P e w zero = refl
@@ -45,6 +46,12 @@ module _ (w : List ℕ) (r : ℕ) where
   pub branch-kind : detailAllowed (kind w r) (detail w r) ≡ true → eqb (kind w r) 11 ≡ isBranch (class w r)
   unfolding base
   branch-kind a = kind-jump (kind w r) (detail w r) a ∙ sym own-branch
+
+  -- a Branch's class is that of its detail
+  pub branch-class : (d n : ℕ) → detailAllowed (kind w r) (detail w r) ≡ true → kind w r ≡ 11 → d ≡ detail w r → d ≡ n → class w r ≡ classOf 11 n
+  unfolding base
+  branch-class d n a k i e =
+      no-block w r a (ap (λ (m : ℕ). eqb m 12) k) ∙ ap (λ (m : ℕ). classOf m (detail w r)) k ∙ ap (classOf 11) (sym i ∙ e)
 
   pub own-breakable : isBreakable (class w r) ≡ isBreakable (base w r)
   unfolding every lowest
