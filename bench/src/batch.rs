@@ -60,7 +60,7 @@ impl Batch {
     }
 }
 
-fn lend(body: &Body) -> zesthull::Body<'_> {
+pub fn lend(body: &Body) -> zesthull::Body<'_> {
     let (rows, pairs) = (body.rows.as_flattened(), body.pairs.as_flattened());
     zesthull::Body { rows, pairs, bytes: &body.bytes }
 }

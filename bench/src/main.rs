@@ -1,4 +1,4 @@
-//! Times the port beside goscript.
+//! Times the port beside goscript, and its walk beside one over a tree of nodes.
 
 mod batch;
 mod classes;
@@ -6,6 +6,8 @@ mod machine;
 mod measure;
 mod options;
 mod report;
+mod tree;
+mod walks;
 
 use classes::{CLASSES, SIZES};
 use measure::{measure, Effort};
@@ -43,6 +45,10 @@ fn time(quick: bool) {
             lines.push(Line { class: class.name, rows, figures: measure(&pool, &effort) });
         }
     }
+    eprintln!("steps of a walk");
+    let walks = walks::measure(&effort);
+    let starts = SIZES.map(|rows| (rows, walks::measure_start(rows, &effort)));
     println!("{}\n", machine::line());
     report::show(&lines);
+    report::show_walks(&walks, &starts);
 }

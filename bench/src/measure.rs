@@ -27,7 +27,7 @@ pub struct Effort {
     pub rounds: usize,
 }
 
-/// Nanoseconds a row.
+/// Nanoseconds a row, a step or a body.
 #[derive(Clone, Copy)]
 pub struct Figure {
     pub median: f64,
@@ -41,9 +41,7 @@ pub struct Figures {
 }
 
 pub fn measure(pool: &[Body], effort: &Effort) -> Figures {
-    let rows: usize = pool.iter().map(|body| body.rows.len()).sum();
-    let size = (BATCH_ROWS * pool.len() / rows).clamp(1, BATCH);
-    let mut batches: Vec<Batch> = pool.chunks(size).map(Batch::new).collect();
+    let (rows, mut batches) = (row_count(pool), batches(pool));
     let (started, timer) = (Instant::now(), timer());
     round(&mut batches, 0, timer);
     let mut rounds = vec![];
@@ -52,6 +50,26 @@ pub fn measure(pool: &[Body], effort: &Effort) -> Figures {
     }
     let figure = |side: usize| figure(rounds.iter().map(|round| round[side]).collect(), rows);
     Figures { goscript: figure(0), port: [1, 2, 3, 4, 5].map(figure) }
+}
+
+/// What one call alone takes, a body.
+pub fn measure_call(pool: &[Body], call: Call, effort: &Effort) -> Figure {
+    let mut batches = batches(pool);
+    let (started, timer) = (Instant::now(), timer());
+    let mut times = vec![];
+    while times.len() < effort.rounds || started.elapsed() < effort.time {
+        times.push(batches.iter_mut().map(|batch| batch.port(call).saturating_sub(timer)).sum());
+    }
+    figure(times, pool.len())
+}
+
+fn row_count(pool: &[Body]) -> usize {
+    pool.iter().map(|body| body.rows.len()).sum()
+}
+
+fn batches(pool: &[Body]) -> Vec<Batch> {
+    let size = (BATCH_ROWS * pool.len() / row_count(pool)).clamp(1, BATCH);
+    pool.chunks(size).map(Batch::new).collect()
 }
 
 /// What each side takes on the whole pool. The sides take turns, and the
@@ -73,8 +91,9 @@ fn round(batches: &mut [Batch], number: usize, timer: Duration) -> [Duration; SI
     times
 }
 
-fn figure(mut times: Vec<Duration>, rows: usize) -> Figure {
+/// A figure from the times of rounds over so many rows, steps or bodies.
+pub fn figure(mut times: Vec<Duration>, count: usize) -> Figure {
     times.sort();
-    let a_row = |time: Duration| time.as_nanos() as f64 / rows as f64;
-    Figure { median: a_row(times[times.len() / 2]), least: a_row(times[0]) }
+    let each = |time: Duration| time.as_nanos() as f64 / count as f64;
+    Figure { median: each(times[times.len() / 2]), least: each(times[0]) }
 }

@@ -1,8 +1,9 @@
 //! The command's options.
 
 pub const HELP: &str = "\
-Times the port beside goscript on the same bodies, in one process, and prints
-the tables in Markdown.
+Times the port beside goscript on the same bodies, and the steps of its walk
+beside a walk over a tree of nodes, in one process, and prints the tables in
+Markdown.
 
   --quick   a short run, for a first look
   --help    this text

@@ -1,6 +1,7 @@
 //! The tables, in Markdown.
 
 use crate::measure::{Figure, Figures};
+use crate::walks::{WalkLine, STEPS};
 
 pub struct Line {
     pub class: &'static str,
@@ -27,6 +28,24 @@ pub fn show(lines: &[Line]) {
         let sum: f64 = parts.iter().sum();
         let parts = parts.map(|part| format!("{part:.2}")).join(" | ");
         println!("| {class} | {rows} | {parts} | {sum:.2} | {marks:.2} |");
+    }
+}
+
+pub fn show_walks(lines: &[WalkLine], starts: &[(usize, Figure)]) {
+    println!("\nWalks of {STEPS} steps, nanoseconds a step, median (least):\n");
+    println!("| choices | tree of nodes | port | tree / port | port, million steps a second |");
+    println!("|---|---:|---:|---:|---:|");
+    for WalkLine { choices, tree, port } in lines {
+        let (ratio, a_second) = (tree.median / port.median, 1_000.0 / port.median);
+        println!("| {choices} | {} | {} | {ratio:.1} | {a_second:.0} |", text(*tree), text(*port));
+    }
+    println!(
+        "\nThe walk call with limit 0, nanoseconds a body as people write them, median (least):\n"
+    );
+    println!("| rows | port |");
+    println!("|---:|---:|");
+    for (rows, start) in starts {
+        println!("| {rows} | {} |", text(*start));
     }
 }
 

@@ -1,5 +1,6 @@
-/* Every call from C: document 01's answers and refusals, counts of 0, words that have to stay, and
-   the version. Prints a line for each check that fails and returns 1; else prints how many passed.
+/* Every call from C: the answers and refusals of documents 01 and 02, counts of 0, words that have to
+   stay, and the version. Prints a line for each check that fails and returns 1; else prints how many
+   passed.
 
    cc bindings/c/tests.c -Ibindings/c target/staticlib/libexports.a -o tests && ./tests */
 #include <stdio.h>
@@ -15,6 +16,12 @@ struct body {
     size_t pair_words;
     const uint8_t *bytes;
     size_t byte_count;
+};
+
+/* What a walk is given. */
+struct course {
+    const uint32_t *choices;
+    size_t choice_count, limit;
 };
 
 struct answer {
@@ -129,11 +136,46 @@ static void try_marks(int line, struct body body, size_t sheet_words, size_t bin
     check_memory(line, answer);
 }
 
+static void try_walk(int line, struct body body, struct course course, uint32_t number, size_t due,
+                     size_t steps_due, size_t used_due) {
+    size_t value, steps, used;
+    uint32_t got = zesthull_walk(LENT(body), course.choices, course.choice_count, course.limit,
+                                 unset(&value), unset(&steps), unset(&used));
+    check_told(line, "walk", got, value, number, due);
+    check(line, steps == steps_due, "steps of the walk");
+    check(line, used == used_due, "choices used by the walk");
+}
+
+/* The places that a walk can reach. */
+enum { STOPPED = 0, BRACE = 1 };
+#define AT(row) (2 + (row))
+
+static void walked(int line, struct body body, struct course course, size_t place, size_t steps,
+                   size_t used) {
+    try_walk(line, body, course, ZESTHULL_NONE, place, steps, used);
+}
+
+/* A refused walk leaves steps and choices used as they were. */
+static void walk_refused(int line, struct body body, struct course course, uint32_t number,
+                         size_t index) {
+    try_walk(line, body, course, number, index, UNSET, UNSET);
+}
+
+/* The walk that stays at row 0, or refusal 8 where the body has a fault. */
+static void try_first_place(int line, struct body body, struct answer due) {
+    struct course course = {WORDS(9), 0};
+    if (due.sheet_words || due.placing)
+        walk_refused(line, body, course, ZESTHULL_FAULTY, 0);
+    else
+        walked(line, body, course, AT(0), 0, 0);
+}
+
 /* A well-formed body through every call, with buffers just long enough and longer. */
 static void answered(int line, struct body body, struct answer due) {
     try_refusal(line, body, ZESTHULL_NONE, 0);
     try_placing(line, body, ZESTHULL_NONE, due.placing);
     try_verdict(line, body, ZESTHULL_NONE, due.verdict);
+    try_first_place(line, body, due);
     size_t faults = due.sheet_words / 4;
     for (size_t more = 0; more <= MARGIN; more += MARGIN) {
         size_t sheet_words = 8 * due.rows + more, binding_words = due.rows + more;
@@ -158,6 +200,8 @@ static void refused(int line, struct body body, uint32_t number, size_t index) {
     try_verdict(line, body, number, index);
     writers_refused(line, body, 8 * MOST_ROWS, MOST_ROWS, number, index);
     writers_refused(line, body, 0, 0, number, index);
+    walk_refused(line, body, (struct course){WORDS(9), 9}, number, index);
+    walk_refused(line, body, (struct course){NO_WORDS, 0}, number, index);
 }
 
 /* {goto M;L:for{}} */
@@ -176,6 +220,7 @@ static void test_numbers(void) {
     check(__LINE__, ZESTHULL_NAME_WORDS == 2 && ZESTHULL_PAIR == 3, "refusals 2 and 3");
     check(__LINE__, ZESTHULL_ROW == 4 && ZESTHULL_SHAPE == 5, "refusals 4 and 5");
     check(__LINE__, ZESTHULL_DEPTH == 6 && ZESTHULL_TOO_SHORT == 7, "refusals 6 and 7");
+    check(__LINE__, ZESTHULL_FAULTY == 8 && ZESTHULL_CHOICE == 9, "refusals 8 and 9");
 }
 
 /* Bodies of document 01's table; the position of row r is 10 * (r + 1). */
@@ -355,6 +400,154 @@ static void test_counts_of_zero(void) {
     refused(__LINE__, body, ZESTHULL_ROW_WORDS, 0);
 }
 
+/* Bodies to walk; the position of row r is 10 * (r + 1). */
+
+/* if c {} */
+static const uint32_t if_rows[15] = {12, 0, 10, 0, 3, 13, 0, 20, 0, 2, 12, 0, 30, 0, 1};
+
+/* L: for c { switch { case a: fallthrough; case b: continue L; default: break }; if d { break L } };
+   return */
+static const uint32_t loop_rows[80] = {
+    12, 0, 10,  0, 16, /*  0 { */
+    3,  0, 20,  1, 14, /*  1   L: */
+    19, 1, 30,  0, 13, /*  2   for c */
+    12, 0, 40,  0, 12, /*  3   { */
+    15, 0, 50,  0, 8,  /*  4     switch */
+    12, 0, 60,  0, 7,  /*  5     { */
+    14, 0, 70,  0, 2,  /*  6     case a: */
+    11, 3, 80,  0, 1,  /*  7       fallthrough */
+    14, 0, 90,  0, 2,  /*  8     case b: */
+    11, 1, 100, 1, 1,  /*  9       continue L */
+    14, 1, 110, 0, 2,  /* 10     default: */
+    11, 0, 120, 0, 1,  /* 11       break */
+    13, 0, 130, 0, 3,  /* 12     if d */
+    12, 0, 140, 0, 2,  /* 13     { */
+    11, 0, 150, 1, 1,  /* 14       break L */
+    10, 0, 160, 0, 1,  /* 15   return */
+};
+
+/* L: for range x { for { if a { continue L } else { f() }; switch { case b: case c: break L } } };
+   return */
+static const uint32_t nest_rows[85] = {
+    12, 0, 10,  0, 17, /*  0 { */
+    3,  0, 20,  1, 15, /*  1   L: */
+    20, 0, 30,  0, 14, /*  2   for range x */
+    12, 0, 40,  0, 13, /*  3   { */
+    19, 0, 50,  0, 12, /*  4     for */
+    12, 0, 60,  0, 11, /*  5     { */
+    13, 1, 70,  0, 5,  /*  6       if a */
+    12, 0, 80,  0, 2,  /*  7       { */
+    11, 1, 90,  1, 1,  /*  8         continue L */
+    12, 0, 100, 0, 2,  /*  9       else { */
+    4,  0, 110, 0, 1,  /* 10         f() */
+    15, 0, 120, 0, 5,  /* 11       switch */
+    12, 0, 130, 0, 4,  /* 12       { */
+    14, 0, 140, 0, 1,  /* 13       case b: */
+    14, 0, 150, 0, 2,  /* 14       case c: */
+    11, 0, 160, 1, 1,  /* 15         break L */
+    10, 0, 170, 0, 1,  /* 16   return */
+};
+
+/* goto M; L: select { case <-c: goto M; case c <- 1: break L }; return; M: goto L */
+static const uint32_t goto_rows[60] = {
+    12, 0, 10,  0, 12, /*  0 { */
+    11, 2, 20,  2, 1,  /*  1   goto M */
+    3,  0, 30,  1, 7,  /*  2   L: */
+    18, 0, 40,  0, 6,  /*  3   select */
+    12, 0, 50,  0, 5,  /*  4   { */
+    17, 0, 60,  0, 2,  /*  5   case <-c: */
+    11, 2, 70,  2, 1,  /*  6     goto M */
+    17, 0, 80,  0, 2,  /*  7   case c <- 1: */
+    11, 0, 90,  1, 1,  /*  8     break L */
+    10, 0, 100, 0, 1,  /*  9   return */
+    3,  0, 110, 2, 2,  /* 10   M: */
+    11, 2, 120, 1, 1,  /* 11   goto L */
+};
+
+static const uint32_t walk_pairs[4] = {0, 1, 1, 1};
+
+/* These rows, with the names L and M. */
+static struct body to_walk(const uint32_t *rows, size_t row_words) {
+    return (struct body){rows, row_words, walk_pairs, 4, BYTES("LM")};
+}
+
+/* A Block of one statement of this kind over a Block without items. */
+static struct body lone(uint32_t kind) {
+    put_row(0, 12, 3);
+    put_row(1, kind, 2);
+    put_row(2, 12, 1);
+    return of_many_rows(3);
+}
+
+/* The limit is looked at first; then whether the walk has ended, then whether a choice is left, then
+   its range. */
+static void test_walk_ends(void) {
+    struct body body = to_walk(if_rows, 15);
+    walked(__LINE__, body, (struct course){WORDS(1), 9}, BRACE, 3, 1);
+    walked(__LINE__, body, (struct course){WORDS(0), 9}, BRACE, 2, 1);
+    walked(__LINE__, body, (struct course){WORDS(1), 3}, BRACE, 3, 1);
+    walked(__LINE__, body, (struct course){WORDS(1), 2}, AT(2), 2, 1);
+    walked(__LINE__, body, (struct course){WORDS(0, 9), SIZE_MAX}, BRACE, 2, 1);
+    walked(__LINE__, body, (struct course){NO_WORDS, 0}, AT(0), 0, 0);
+    walked(__LINE__, body, (struct course){NO_WORDS, 9}, AT(1), 1, 0);
+    walked(__LINE__, body, (struct course){WORDS(9), 0}, AT(0), 0, 0);
+    walked(__LINE__, body, (struct course){WORDS(9), 1}, AT(1), 1, 0);
+    walk_refused(__LINE__, body, (struct course){WORDS(9), 2}, ZESTHULL_CHOICE, 0);
+    walk_refused(__LINE__, body, (struct course){WORDS(2), 9}, ZESTHULL_CHOICE, 0);
+    walk_refused(__LINE__, body, (struct course){WORDS(0x10000), 9}, ZESTHULL_CHOICE, 0);
+    walk_refused(__LINE__, body, (struct course){WORDS(UINT32_MAX), 9}, ZESTHULL_CHOICE, 0);
+}
+
+static void test_walks(void) {
+    struct body body = to_walk(loop_rows, 80);
+    walked(__LINE__, body, (struct course){WORDS(1, 0, 1, 2, 0, 0), 99}, STOPPED, 17, 6);
+    walked(__LINE__, body, (struct course){WORDS(1, 0, 1, 2, 0, 0), 16}, AT(15), 16, 6);
+    walked(__LINE__, body, (struct course){WORDS(1, 0, 1, 2, 0), 99}, AT(2), 15, 5);
+    walked(__LINE__, body, (struct course){WORDS(1, 2, 1), 99}, STOPPED, 11, 3);
+    walked(__LINE__, body, (struct course){WORDS(1, 0, 0, 9), 99}, STOPPED, 11, 3);
+    walk_refused(__LINE__, body, (struct course){WORDS(1, 3), 99}, ZESTHULL_CHOICE, 1);
+    walk_refused(__LINE__, body, (struct course){WORDS(1, 1, 1, 2, 2), 99}, ZESTHULL_CHOICE, 4);
+    body = to_walk(nest_rows, 85);
+    walked(__LINE__, body, (struct course){WORDS(1, 1, 0), 99}, STOPPED, 11, 3);
+    walked(__LINE__, body, (struct course){WORDS(1, 0, 0, 0, 1), 99}, STOPPED, 20, 5);
+    walked(__LINE__, body, (struct course){WORDS(1, 0, 2), 10}, AT(4), 10, 3);
+    walk_refused(__LINE__, body, (struct course){WORDS(1, 0, 3), 10}, ZESTHULL_CHOICE, 2);
+    body = to_walk(goto_rows, 60);
+    walked(__LINE__, body, (struct course){WORDS(0, 1), 99}, STOPPED, 15, 2);
+    walked(__LINE__, body, (struct course){WORDS(0, 1), 10}, AT(2), 10, 1);
+    walk_refused(__LINE__, body, (struct course){WORDS(0, 2), 99}, ZESTHULL_CHOICE, 1);
+}
+
+/* Statements over no items: what they take of the choices, and where they lead. */
+static void test_walks_without_items(void) {
+    for (uint32_t kind = 15; kind <= 16; kind++) {
+        walked(__LINE__, lone(kind), (struct course){WORDS(0), 9}, BRACE, 2, 1);
+        walked(__LINE__, lone(kind), (struct course){NO_WORDS, 9}, AT(1), 1, 0);
+        walk_refused(__LINE__, lone(kind), (struct course){WORDS(1), 9}, ZESTHULL_CHOICE, 0);
+    }
+    walked(__LINE__, lone(18), (struct course){WORDS(5), 9}, STOPPED, 2, 0);
+    walked(__LINE__, lone(19), (struct course){WORDS(5), 9}, AT(1), 9, 0);
+    walked(__LINE__, lone(19), (struct course){NO_WORDS, 1000000}, AT(2), 1000000, 0);
+    walked(__LINE__, lone(20), (struct course){WORDS(1, 1, 0), 9}, BRACE, 6, 3);
+    walked(__LINE__, nested(100), (struct course){NO_WORDS, 99}, AT(99), 99, 0);
+    walked(__LINE__, nested(100), (struct course){NO_WORDS, 101}, BRACE, 100, 0);
+    walked(__LINE__, flat(2000), (struct course){NO_WORDS, SIZE_MAX}, BRACE, 2000, 0);
+}
+
+/* 8 comes after the refusals of the body, which `refused` tries, and before 9. */
+static void test_walks_refused(void) {
+    walk_refused(__LINE__, example(), (struct course){NO_WORDS, 0}, ZESTHULL_FAULTY, 0);
+    walk_refused(__LINE__, example(), (struct course){WORDS(9), 9}, ZESTHULL_FAULTY, 0);
+    /* if c {}; break */
+    struct body body = {WORDS(12, 0, 10, 0, 4, 13, 0, 20, 0, 2, 12, 0, 30, 0, 1, 11, 0, 40, 0, 1),
+                        NO_WORDS, BYTES("")};
+    walk_refused(__LINE__, body, (struct course){NO_WORDS, 0}, ZESTHULL_FAULTY, 0);
+    walk_refused(__LINE__, body, (struct course){WORDS(9), 9}, ZESTHULL_FAULTY, 0);
+    body = nested(101);
+    many_rows[5 * 100] = 11;
+    walk_refused(__LINE__, body, (struct course){WORDS(9), 9}, ZESTHULL_DEPTH, 100);
+}
+
 static void named(int line, struct body body, size_t number, size_t length, size_t start) {
     size_t offset;
     size_t got = zesthull_name(body.pairs, body.pair_words, body.bytes, body.byte_count, number,
@@ -396,6 +589,10 @@ int main(void) {
     test_too_short();
     test_order();
     test_counts_of_zero();
+    test_walk_ends();
+    test_walks();
+    test_walks_without_items();
+    test_walks_refused();
     test_names();
     if (failures) {
         printf("%zu of %zu checks failed\n", failures, checks);

@@ -1,5 +1,6 @@
 /* The marks of a Go function body: label faults (the sheet), where labels bind, whether unlabelled
-   branches are well placed, and whether the body is terminating (the verdict).
+   branches are well placed, and whether the body is terminating (the verdict). And walks of it by
+   given choices.
 
    A body is its row words (five a row: kind, detail, position, name, size), its pair words (two a
    name: offset, length) and its name bytes, each lent as a pointer and a count.
@@ -22,8 +23,8 @@
 extern "C" {
 #endif
 
-/* 0.9.0: major * 1,000,000 + minor * 1,000 + patch. */
-#define ZESTHULL_VERSION 9000
+/* 0.10.0: major * 1,000,000 + minor * 1,000 + patch. */
+#define ZESTHULL_VERSION 10000
 
 enum zesthull_refusals {
     ZESTHULL_NONE = 0,
@@ -33,7 +34,9 @@ enum zesthull_refusals {
     ZESTHULL_ROW = 4,        /* a row's kind, detail, position or name, by the row */
     ZESTHULL_SHAPE = 5,      /* a row's size, parent or children, by the row */
     ZESTHULL_DEPTH = 6,      /* a row over 100 deep, by the row */
-    ZESTHULL_TOO_SHORT = 7   /* sheet under 8 words a row, or bindings under 1 word a row */
+    ZESTHULL_TOO_SHORT = 7,  /* sheet under 8 words a row, or bindings under 1 word a row */
+    ZESTHULL_FAULTY = 8,     /* sheet not empty, or a row badly placed */
+    ZESTHULL_CHOICE = 9      /* a choice out of range when it is met, by its index from 0 */
 };
 
 /* Whether the body is well-formed. The value is 0 if it is. */
@@ -68,6 +71,22 @@ uint32_t zesthull_marks(const uint32_t *rows, size_t row_words,
                         uint32_t *sheet, size_t sheet_words,
                         uint32_t *bindings, size_t binding_words,
                         size_t *value, size_t *placing, size_t *verdict);
+
+/* The walk call: from row 0 by the choices given, of `limit` steps at most. At If, For with a
+   condition and Range a choice is 1 for the body and 0 for the other way; at a switch or Select it is
+   the clause from 0, and the number of clauses for going on where a switch has no default. An empty
+   Select takes none. The walk ends at a stop, the closing brace, the limit, which is looked at first,
+   or where it needs a choice and none is left. A limit of any size will do: where the walk goes round
+   without a choice, the rounds up to the limit aren't made one by one.
+
+   The value is the place reached: 0 for stopped, 1 for the closing brace, 2 + the row; the steps made
+   come through `steps`, the choices used through `used`. A refusal writes its index through `value`
+   alone. */
+uint32_t zesthull_walk(const uint32_t *rows, size_t row_words,
+                       const uint32_t *pairs, size_t pair_words,
+                       const uint8_t *bytes, size_t byte_count,
+                       const uint32_t *choices, size_t choice_count, size_t limit,
+                       size_t *value, size_t *steps, size_t *used);
 
 /* The bytes of a name: returns the length of the name's pair, and writes the pair's offset, where in
    `bytes` the name starts, through `offset`. Both are 0 where there is no such name: for number 0,

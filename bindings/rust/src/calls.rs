@@ -29,6 +29,11 @@ mod exports {
             bindings: *mut u32, binding_words: usize, value: *mut usize,
             placing: *mut usize, verdict: *mut usize,
         ) -> u32;
+        pub fn zesthull_walk(
+            rows: *const u32, row_words: usize, pairs: *const u32, pair_words: usize,
+            bytes: *const u8, byte_count: usize, choices: *const u32, choice_count: usize,
+            limit: usize, value: *mut usize, steps: *mut usize, used: *mut usize,
+        ) -> u32;
         pub fn zesthull_name(
             pairs: *const u32, pair_words: usize, bytes: *const u8, byte_count: usize,
             number: usize, offset: *mut usize,
@@ -87,6 +92,19 @@ pub fn marks(
     with_body!(
         zesthull_marks, body, sheet, sheet_words, bindings, binding_words, value, placing, verdict
     )
+}
+
+#[inline]
+pub fn walk(
+    body: Body,
+    choices: &[u32],
+    limit: usize,
+    value: &mut usize,
+    steps: &mut usize,
+    used: &mut usize,
+) -> u32 {
+    let (choices, choice_count) = (choices.as_ptr(), choices.len());
+    with_body!(zesthull_walk, body, choices, choice_count, limit, value, steps, used)
 }
 
 #[inline]

@@ -1,5 +1,6 @@
 //! The marks of a Go function body: label faults (the sheet), where labels bind, whether unlabelled
-//! branches are well placed, and whether the body is terminating (the verdict).
+//! branches are well placed, and whether the body is terminating (the verdict). And walks of it by
+//! given choices.
 //!
 //! Each function answers on any words: a body that isn't well-formed gets a [`Refusal`], and then no
 //! lent buffer is changed. The calls themselves are proved; here they are only made safe to name.
@@ -29,7 +30,7 @@ pub struct Body<'a> {
     pub bytes: &'a [u8],
 }
 
-/// Why there is no answer: document 01's number and index.
+/// Why there is no answer: the number and index of documents 01 and 02.
 #[derive(Clone, Copy, Debug, PartialEq, Eq)]
 pub struct Refusal {
     pub number: u32,
@@ -46,7 +47,9 @@ impl fmt::Display for Refusal {
             4 => write!(f, "row {index} has a kind, detail, position or name that isn't allowed"),
             5 => write!(f, "row {index} breaks the shape of its kind"),
             6 => write!(f, "row {index} is over 100 deep"),
-            _ => write!(f, "sheet shorter than 8 words a row, or bindings shorter than 1 word a row"),
+            7 => write!(f, "sheet shorter than 8 words a row, or bindings shorter than 1 word a row"),
+            8 => write!(f, "the sheet isn't empty, or a row is badly placed"),
+            _ => write!(f, "choice {index} is out of range where it is met"),
         }
     }
 }
@@ -62,6 +65,26 @@ pub struct Marks {
     pub badly_placed: Option<usize>,
     /// The verdict.
     pub terminating: bool,
+}
+
+/// Where a walk stands.
+#[derive(Clone, Copy, Debug, PartialEq, Eq)]
+pub enum Place {
+    Stopped,
+    /// The closing brace.
+    Brace,
+    Row(usize),
+}
+
+/// How far a walk went.
+#[derive(Clone, Copy, Debug, PartialEq, Eq)]
+pub struct Walk {
+    /// The place reached.
+    pub place: Place,
+    /// The steps made.
+    pub steps: usize,
+    /// The choices used.
+    pub used: usize,
 }
 
 /// Whether the body is well-formed.
@@ -92,6 +115,27 @@ pub fn marks(body: Body, sheet: &mut [u32], bindings: &mut [u32]) -> Result<Mark
     Ok(Marks { faults: count, badly_placed: placing.checked_sub(1), terminating: verdict == 1 })
 }
 
+/// The walk call: from row 0 by the choices given, of `limit` steps at most. At If, For with a condition
+/// and Range a choice is 1 for the body and 0 for the other way; at a switch or Select it is the clause
+/// from 0, and the number of clauses for going on where a switch has no default. An empty Select takes
+/// none. The walk ends at a stop, the closing brace, the limit, which is looked at first, or where it
+/// needs a choice and none is left.
+///
+/// ```
+/// // {for c {}}
+/// let rows = [[12, 0, 1, 0, 3], [19, 1, 2, 0, 2], [12, 0, 3, 0, 1]];
+/// let body = zesthull::Body { rows: rows.as_flattened(), pairs: &[], bytes: &[] };
+/// let walk = zesthull::walk(body, &[1, 0], 100).unwrap();
+/// assert_eq!((walk.place, walk.steps, walk.used), (zesthull::Place::Brace, 4, 2));
+/// let walk = zesthull::walk(body, &[1], 100).unwrap();
+/// assert_eq!((walk.place, walk.steps, walk.used), (zesthull::Place::Row(1), 3, 1));
+/// ```
+pub fn walk(body: Body, choices: &[u32], limit: usize) -> Result<Walk, Refusal> {
+    let (mut steps, mut used) = (0, 0);
+    let place = told(|value| calls::walk(body, choices, limit, value, &mut steps, &mut used))?;
+    Ok(Walk { place: place_of(place), steps, used })
+}
+
 /// The bytes of a name, as a part of the caller's own; an empty part for number 0, for a number past
 /// the last pair, and for pairs or bytes that are refused.
 pub fn name<'b>(pairs: &[u32], bytes: &'b [u8], number: usize) -> &'b [u8] {
@@ -103,6 +147,15 @@ pub fn name<'b>(pairs: &[u32], bytes: &'b [u8], number: usize) -> &'b [u8] {
 /// The version of the archive linked: major * 1,000,000 + minor * 1,000 + patch.
 pub fn version() -> u32 {
     calls::version()
+}
+
+/// The place that a value stands for.
+fn place_of(value: usize) -> Place {
+    match value {
+        0 => Place::Stopped,
+        1 => Place::Brace,
+        _ => Place::Row(value - 2),
+    }
 }
 
 /// The value that a call writes where it refuses nothing; else the refusal.

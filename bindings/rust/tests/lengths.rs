@@ -4,7 +4,7 @@ mod common;
 
 use common::bodies::{LABELS, TABLE};
 use common::*;
-use zesthull::{Body, Refusal};
+use zesthull::{Body, Place, Refusal, Walk};
 
 /// What the example gets where some of its slices are empty: rows, pairs, bytes, sheet, bindings.
 fn refusal_without([rows, pairs, bytes, sheet, bindings]: [bool; 5]) -> Option<(u32, usize)> {
@@ -56,6 +56,7 @@ fn empty_slices_without_memory() {
     assert_eq!(zesthull::verdict(body), Err(refusal));
     assert_eq!(zesthull::labels(body, &mut [], &mut []), Err(refusal));
     assert_eq!(zesthull::marks(body, &mut [], &mut []), Err(refusal));
+    assert_eq!(zesthull::walk(body, &[], 9), Err(refusal));
     let body = Body { rows: &[12, 0, 1, 0, 1], ..body };
     let refusal = Refusal { number: 7, index: 0 };
     assert_eq!(zesthull::refusal(body), Ok(()));
@@ -64,6 +65,8 @@ fn empty_slices_without_memory() {
     assert_eq!(zesthull::labels(body, &mut [], &mut []), Err(refusal));
     assert_eq!(zesthull::marks(body, &mut [], &mut []), Err(refusal));
     assert_eq!(zesthull::labels(body, &mut [0; 8], &mut [0]), Ok(0));
+    let walk = Walk { place: Place::Brace, steps: 1, used: 0 };
+    assert_eq!(zesthull::walk(body, &[], 9), Ok(walk));
 }
 
 /// The first words of the example, and one more than it has: row 0 ends past a shorter body.

@@ -1,26 +1,33 @@
-//! The order of the refusals: a body with several faults gets the one that document 01 tests first.
+//! The order of the refusals: a body with several faults gets the one that documents 01 and 02 test
+//! first.
 
 mod common;
 
 use common::*;
-use zesthull::Refusal;
+use zesthull::{Place, Refusal, Walk};
 
 const ROWS: usize = 110;
 /// The number and index of each refusal that `faulty` brings about.
-const REFUSALS: [(u32, usize); 7] = [(1, 0), (2, 0), (3, 1), (4, 107), (5, 105), (6, 100), (7, 0)];
+const REFUSALS: [(u32, usize); 9] =
+    [(1, 0), (2, 0), (3, 1), (4, 107), (5, 105), (6, 100), (7, 0), (8, 0), (9, 0)];
 
 /// A body with the faults whose numbers are asked for, each where the others leave it. Row 103 and
-/// those after it are items of row 0.
+/// those after it are items of row 0, the first an If, where a walk meets its first choice.
 fn faulty(has: impl Fn(u32) -> bool) -> Words {
     let mut rows = flat(ROWS);
     let chain = if has(6) { 103 } else { 100 };
     rows[..chain].copy_from_slice(&nested(chain));
     rows[0][4] = ROWS as u32;
+    rows[103] = [IF, 0, 1, 0, 2];
+    rows[104][0] = BLOCK;
     if has(4) {
         rows[107][2] = 0;
     }
     if has(5) {
         rows[105][4] = 0;
+    }
+    if has(8) {
+        rows[109][0] = BRANCH;
     }
     let mut words = Words::new(&rows, &["M", "L", "N"]);
     if has(1) {
@@ -48,6 +55,22 @@ fn all_sets_of_faults() {
         }
         let lent = if has(7) { (0, 0) } else { (8 * ROWS, ROWS) };
         expect_unwritten(&what, &words, lent, Refusal { number, index });
+    }
+}
+
+/// The same for the walk, which has no 7: after the faults of the body 8, then 9.
+#[test]
+fn all_sets_of_faults_of_a_walk() {
+    for set in 0..1 << 9 {
+        let has = |number: u32| set >> (number - 1) & 1 == 1;
+        let first = REFUSALS.into_iter().find(|&(number, _)| number != 7 && has(number));
+        let due = match first {
+            Some((number, index)) => Err(Refusal { number, index }),
+            None => Ok(Walk { place: Place::Brace, steps: 109, used: 1 }),
+        };
+        let choice = if has(9) { 9 } else { 0 };
+        let walk = zesthull::walk(faulty(has).body(), &[choice], 1_000);
+        assert_eq!(walk, due, "faults {set:09b}");
     }
 }
 

@@ -13,21 +13,22 @@ fn text(number: u32, index: usize) -> String {
 
 #[test]
 fn each_refusal_has_its_words() {
-    let mut texts: Vec<String> = (1..=7).map(|number| text(number, 42)).collect();
+    let mut texts: Vec<String> = (1..=9).map(|number| text(number, 42)).collect();
     assert!(texts.iter().all(|text| !text.is_empty()));
     texts.sort();
     texts.dedup();
-    assert_eq!(texts.len(), 7);
+    assert_eq!(texts.len(), 9);
 }
 
-/// Refusals 3 to 6 have an index; the others have none.
+/// Refusals 3 to 6 and 9 have an index; the others have none.
 #[test]
 fn the_index_is_told() {
     assert!(text(3, 42).contains("pair 42"));
     for number in 4..=6 {
         assert!(text(number, 42).contains("row 42"));
     }
-    for number in [1, 2, 7] {
+    assert!(text(9, 42).contains("choice 42"));
+    for number in [1, 2, 7, 8] {
         assert!(!text(number, 42).contains("42"));
     }
 }

@@ -10,6 +10,7 @@ pub enum Kind {
     Verdict,
     Sheet,
     Bindings,
+    Walk,
     Empty,
     Remark,
 }
@@ -54,6 +55,9 @@ pub fn kind_of(line: &[u8]) -> Kind {
     }
     if first_word_is(line, b"bindings") {
         return Kind::Bindings;
+    }
+    if first_word_is(line, b"walk") {
+        return Kind::Walk;
     }
     Kind::Remark
 }

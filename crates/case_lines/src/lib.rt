@@ -3,3 +3,4 @@
 mod answers;
 mod kinds;
 pub mod lines;
+pub mod walks;

@@ -2,6 +2,7 @@
 use crate::answers;
 use crate::kinds;
 use crate::kinds::Kind;
+use crate::walks;
 use testing::show;
 use testing::words;
 
@@ -64,6 +65,7 @@ fn print(line: &[u8], kind: Kind, rows: &[u32], pairs: &[u32], bytes: &[u8]) {
         Kind::Verdict => answers::verdict(rows, pairs, bytes),
         Kind::Sheet => answers::sheet(rows, pairs, bytes),
         Kind::Bindings => answers::bindings(rows, pairs, bytes),
+        Kind::Walk => walks::walk(line, rows, pairs, bytes),
         _ => show::text(line),
     }
 }

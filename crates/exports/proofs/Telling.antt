@@ -1,4 +1,5 @@
--- What a call answers is told as two numbers: equal answers are told alike. A row badly placed is one of the body's rows, so that 1 more fits a word.
+-- What a call answers is told as two numbers: equal answers are told alike. A row badly placed is one of the body's rows, so that 1 more fits a word;
+-- so is a row that a walk comes to, and 2 more fits.
 -- Assumes nothing.
 use mathlib.Core.Path.{_≡_, refl, sym, _∙_, ap}
 use mathlib.Core.Bool.{Bool, true, false, _&&_}
@@ -14,13 +15,16 @@ use Rattle.rules.specs.Names.{pairCount, offset, len, namesOk, nameBytes}
 use Rattle.rules.specs.Refusals.{refusal}
 use Rattle.rules.specs.Placing.{badlyPlaced, placing}
 use Rattle.rules.specs.Calls.{Answer, refused, answered, labelCall, placingCall, verdictCall}
+use Rattle.rules.specs.Runner.{State, at, stopped, brace}
+use Rattle.rules.specs.Walking.{Walked, placeWord, walkCall, Inside, Faultless}
 use Rattle.rules.proofs.Computed.{computed}
 use Rattle.rules.proofs.Facts.{body}
 use Rattle.rules.proofs.Pairs.{ok-pair}
 use Rattle.rules.proofs.Scan.{lowest-found}
 use Rattle.rules.proofs.Test.{case-of, clash, and-true}
+use Rattle.rules.proofs.Walking.{place-inside}
 use Rattle.marking.specs.Marks.{together, marksCall}
-use Rattle.exports.specs.Told.{placedWord, toldMarks, toldName}
+use Rattle.exports.specs.Told.{placedWord, toldMarks, toldWalk, toldName}
 
 pub tells : {A : Type 0} (told : A → ℕ × ℕ) {o call : A} {n v : ℕ} → n ≡ told o .0 → v ≡ told o .1 → o ≡ call → (n ≡ told call .0) × (v ≡ told call .1)
 tells told f g e = (f ∙ ap (λ x. told x .0) e, g ∙ ap (λ x. told x .1) e)
@@ -80,6 +84,26 @@ together-second (answered c) (answered o) (answered v) m e = ap second e
 pub marks-small : (w p b s t : List ℕ) (m : ℕ × Option ℕ × Bool) → answered m ≡ marksCall w p b s t → placedWord (m .1) ≤ 2000
 unfolding marksCall
 marks-small w p b s t m e = small-word w p b (m .1) (together-second (labelCall w p b s t .answer) (placingCall w p b) (verdictCall w p b) m e)
+
+-- ---- the walk
+pub tells-walk : (x y : ℕ) {o call : Answer Walked} {n v m k : ℕ} → n ≡ toldWalk x y o .0 → v ≡ toldWalk x y o .1 → m ≡ toldWalk x y o .2
+    → k ≡ toldWalk x y o .3 → o ≡ call
+    → (n ≡ toldWalk x y call .0) × (v ≡ toldWalk x y call .1) × (m ≡ toldWalk x y call .2) × (k ≡ toldWalk x y call .3)
+tells-walk x y f g h i e = (
+  f ∙ ap (λ a. toldWalk x y a .0) e,
+  g ∙ ap (λ a. toldWalk x y a .1) e,
+  h ∙ ap (λ a. toldWalk x y a .2) e,
+  i ∙ ap (λ a. toldWalk x y a .3) e,
+)
+
+-- the place is inside the body, so that 2 more than its row fits a word
+small-place : (w p b : List ℕ) → Faultless w p b → (s : State) → Inside w s → placeWord s ≤ 2001
+small-place w p b g (at r) i = omega (arith, i .0, body w p b (g .well-formed) .most-rows)
+small-place w p b g stopped i = omega arith
+small-place w p b g brace i = omega arith
+
+pub walk-small : (w p b cs : List ℕ) (n : ℕ) (x : Walked) → answered x ≡ walkCall w p b cs n → placeWord (x .place) ≤ 2001
+walk-small w p b cs n x e = let (g, i) = place-inside w p b cs n x (sym e) in small-place w p b g (x .place) i
 
 -- ---- a name's part
 

@@ -7,6 +7,7 @@ use Prim.Native.Nat.{ℕ, suc, _-_}
 use lib.Dec.{ltb, leb}
 use Rattle.rules.specs.Names.{pairCount, offset, len, namesOk}
 use Rattle.rules.specs.Calls.{Answer, refused, answered}
+use Rattle.rules.specs.Walking.{Walked, placeWord}
 
 abbrev pub toldRefusal : Option (ℕ × ℕ) → ℕ × ℕ
 toldRefusal none = (0, 0)
@@ -39,6 +40,11 @@ toldVerdict (answered v) = (0, verdictWord v)
 abbrev pub toldMarks : ℕ → ℕ → Answer (ℕ × Option ℕ × Bool) → ℕ × ℕ × ℕ × ℕ
 toldMarks placing verdict (refused n i) = (n, i, placing, verdict)
 toldMarks placing verdict (answered m) = (0, m .0, placedWord (m .1), verdictWord (m .2))
+
+-- the walk: beside number and the place's word, the steps made and the choices used, which a refusal leaves as they were
+abbrev pub toldWalk : ℕ → ℕ → Answer Walked → ℕ × ℕ × ℕ × ℕ
+toldWalk steps used (refused n i) = (n, i, steps, used)
+toldWalk steps used (answered x) = (0, placeWord (x .place), x .steps, x .used)
 
 -- where a name's bytes start and how many they are: the pair's offset and length; 0 and 0 for number 0, for a number past the last pair, and where 2
 -- or 3 refuses

@@ -9,13 +9,17 @@ use placing::Placing;
 use refusals::index_of;
 use refusals::number_of;
 use returns::Verdict;
+use runner::Place;
+use runner::WalkAnswer;
 ghost use mathlib.Core.Path.{_≡_};
 ghost use Prim.Native.Nat.{_≤_};
 ghost use Rattle.rules.specs.Refusals.{refusal};
 ghost use Rattle.rules.specs.Calls.{placingCall, verdictCall, labelCall};
+ghost use Rattle.rules.specs.Walking.{placeWord, walkCall};
 ghost use Rattle.names.specs.Place.{place};
 ghost use Rattle.marking.specs.Marks.{marksCall};
-ghost use Rattle.exports.specs.Told.{toldRefusal, toldCount, placedWord, toldPlacing, verdictWord, toldVerdict, toldMarks, toldName};
+ghost use Rattle.runner.specs.Given.{stateOf};
+ghost use Rattle.exports.specs.Told.{toldRefusal, toldCount, placedWord, toldPlacing, verdictWord, toldVerdict, toldMarks, toldWalk, toldName};
 
 fn wide(word: u32) -> usize
     ensures { λ r. ⌜ r ≡ word ⌝ }
@@ -188,6 +192,53 @@ pub extern "C" fn zesthull_marks(
     }
 }
 
+fn place_word(place: Place) -> usize
+    requires { ⌜ placeWord (stateOf place) ≤ 2001 ⌝ }
+    ensures { λ r. ⌜ r ≡ placeWord (stateOf place) ⌝ }
+{
+    match place {
+        Place::Stopped => 0,
+        Place::Brace => 1,
+        Place::Row(row) => row.0 + 2,
+    }
+}
+
+// The walk call. The value is the place: 0 stopped, 1 the closing brace, 2 + the row.
+#[no_mangle]
+pub extern "C" fn zesthull_walk(
+    rows: &[u32],
+    pairs: &[u32],
+    bytes: &[u8],
+    choices: &[u32],
+    limit: usize,
+    value: &mut usize,
+    steps: &mut usize,
+    used: &mut usize,
+) -> u32
+    ensures number { λ r. ⌜ r ≡ toldWalk (now (steps .entry)) (now (used .entry))
+        (walkCall (now (rows .entry)) (now (pairs .entry)) (now (bytes .entry)) (now (choices .entry)) limit) .0 ⌝ }
+    ensures value { λ _. ⌜ now (value .exit) ≡ toldWalk (now (steps .entry)) (now (used .entry))
+        (walkCall (now (rows .entry)) (now (pairs .entry)) (now (bytes .entry)) (now (choices .entry)) limit) .1 ⌝ }
+    ensures steps { λ _. ⌜ now (steps .exit) ≡ toldWalk (now (steps .entry)) (now (used .entry))
+        (walkCall (now (rows .entry)) (now (pairs .entry)) (now (bytes .entry)) (now (choices .entry)) limit) .2 ⌝ }
+    ensures used { λ _. ⌜ now (used .exit) ≡ toldWalk (now (steps .entry)) (now (used .entry))
+        (walkCall (now (rows .entry)) (now (pairs .entry)) (now (bytes .entry)) (now (choices .entry)) limit) .3 ⌝ }
+{
+    match runner::walk(rows, pairs, bytes, choices, limit) {
+        WalkAnswer::Refused(r) => {
+            *value = index_of(r);
+            number_of(r)
+        }
+        WalkAnswer::Reached(end) => {
+            let place = end.place;
+            *value = place_word(place);
+            *steps = end.steps;
+            *used = end.used;
+            0
+        }
+    }
+}
+
 // The bytes of a name, as a part of the caller's own: its length, and where it starts through
 // `offset`; 0 and 0 where there is no such name.
 #[no_mangle]
@@ -218,7 +269,7 @@ pub extern "C" fn zesthull_name(
 // The version of the calls: this is its one place. CHANGELOG.md says what each version changed.
 const MAJOR: u32 = 0;
 
-const MINOR: u32 = 9;
+const MINOR: u32 = 10;
 
 const PATCH: u32 = 0;
 

@@ -1,8 +1,8 @@
--- What a refusal returns: document 01's number and index.
+-- What a refusal returns: its number and index in documents 01 and 02.
 -- Assumes nothing.
 use Prim.Native.Nat.{ℕ}
 use Rattle.refusals.specs.declared.Refusal.{Refusal}
-use Rattle.refusals.specs.declared.Refusal.the-variants.{RowWords, NameWords, Pair, Row, Shape, Depth, TooShort}
+use Rattle.refusals.specs.declared.Refusal.the-variants.{RowWords, NameWords, Pair, Row, Shape, Depth, TooShort, Faulty, Choice}
 
 abbrev pub returned : Refusal → ℕ × ℕ
 returned RowWords = (1, 0)
@@ -12,3 +12,5 @@ returned (Row r) = (4, r .0)
 returned (Shape r) = (5, r .0)
 returned (Depth r) = (6, r .0)
 returned TooShort = (7, 0)
+returned Faulty = (8, 0)
+returned (Choice i) = (9, i)

@@ -1,4 +1,4 @@
-// Why a call has no answer: one enum for every call, with document 01's number and index.
+// Why a call has no answer: one enum for every call, with the number and index of documents 01 and 02.
 use rows::RowNumber;
 ghost use mathlib.Core.Path.{_≡_};
 ghost use Rattle.refusals.specs.Returned.{returned};
@@ -19,9 +19,13 @@ pub enum Refusal {
     Depth(RowNumber),
     // 7: a lent buffer is too short: sheet under 8 words a row, or bindings under 1 word a row
     TooShort,
+    // 8: the sheet isn't empty, or a row is badly placed
+    Faulty,
+    // 9: the choice, from 0, that is out of range when it is met
+    Choice(usize),
 }
 
-// The refusal's number in document 01's table.
+// The refusal's number in the documents' tables.
 pub fn number_of(refusal: Refusal) -> u32
     ensures { λ r. ⌜ r ≡ returned refusal .0 ⌝ }
 {
@@ -33,10 +37,12 @@ pub fn number_of(refusal: Refusal) -> u32
         Refusal::Shape(_) => 5,
         Refusal::Depth(_) => 6,
         Refusal::TooShort => 7,
+        Refusal::Faulty => 8,
+        Refusal::Choice(_) => 9,
     }
 }
 
-// The row or pair that it is returned with; 0 where there is none.
+// The row, pair or choice that it is returned with; 0 where there is none.
 pub fn index_of(refusal: Refusal) -> usize
     ensures { λ r. ⌜ r ≡ returned refusal .1 ⌝ }
 {
@@ -48,5 +54,7 @@ pub fn index_of(refusal: Refusal) -> usize
         Refusal::Shape(r) => r.0,
         Refusal::Depth(r) => r.0,
         Refusal::TooShort => 0,
+        Refusal::Faulty => 0,
+        Refusal::Choice(i) => i,
     }
 }

@@ -13,6 +13,7 @@ use Rattle.rules.specs.Labels.{bindings}
 use Rattle.rules.specs.Placing.{endsCase, wellPlaced, badlyPlaced, placing}
 use Rattle.rules.specs.Verdict.{labelOn, refersTo, hasBreak, anyDefault, hasDefault, terminating, terminatingList, terminatingClauses, verdict}
 use Rattle.rules.specs.Tally.{labelledBranches, boundBranches, unboundRows, unboundWords}
+use Rattle.rules.specs.Walking.{isFork, walkOn, isFaulty, walkCall, forkChoices}
 use Rattle.rules.specs.Runner.{climb, after, breakTo, continueTo, gotoTo, itemAt, itemCount, clauseCount, choices, step}
 
 unfoldable pub computed : Type 0
@@ -21,5 +22,5 @@ unfolding lowest highest howMany depth detailAllowed classOf base class previous
     listOf inListOf onlyEmpty nextCase each isLabel labels declared earlier later gotoLabel latestDeclaration pending lastInRun inBlockOf target validTarget
     labelledBreak binding jumpsOver repeated report unresolved used declaredAt unused sheet bindings endsCase wellPlaced badlyPlaced placing labelOn refersTo
     hasBreak anyDefault hasDefault terminating terminatingList terminatingClauses verdict climb after breakTo continueTo gotoTo itemAt itemCount clauseCount
-    choices step labelledBranches boundBranches unboundRows unboundWords
+    choices step labelledBranches boundBranches unboundRows unboundWords isFork walkOn isFaulty walkCall forkChoices
 computed = Unit {0}

@@ -50,3 +50,8 @@ pub mod Steps
 pub mod Traps
 pub mod RunnerBodies
 pub mod LawUsed
+pub mod WalkBodies
+pub mod Inside
+pub mod WalkSteps
+pub mod Walking
+pub mod WalkUsed

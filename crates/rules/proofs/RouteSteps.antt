@@ -27,10 +27,11 @@ use Rattle.rules.proofs.Every.{every}
 use Rattle.rules.proofs.Shape.{opens}
 use Rattle.rules.proofs.ClassRules.{isClauseBlock, isNever, child-rule, only-opened, opens-holds}
 use Rattle.rules.proofs.Terminating.{refers-inside, no-break}
-use Rattle.rules.proofs.Going.{clause-count, item-at, default-clause}
+use Rattle.rules.proofs.Going.{clause-count, item-at}
 use Rattle.rules.proofs.Ends.{Ends, empty-ends, all-empty-ends, never-ends, labeled-ends, statements-end, switch-ends, breakable-ends}
 use Rattle.rules.proofs.Final.{Final, child-in, final-parent, not-final}
 use Rattle.rules.proofs.Onward.{RouteRow, list-opens, isOrdinary, loop-ordinary, ordinary-row, empty-first, goes-on}
+use Rattle.rules.proofs.Inside.{clauses-open, comms-open}
 use Rattle.rules.proofs.Destinations.{break-to, continue-to, goto-to, next-case-row, breaks, continues, gotos, falls}
 
 -- ---- rules of the classes
@@ -64,10 +65,6 @@ two-ways {w} {x} {y} f g = (omega arith, λ c h. (pick c x y, refl, picked c))
     picked : (c : ℕ) → RouteState w (pick c x y)
     picked zero = g
     picked (suc c) = f
-
-some-or-one : (n : ℕ) → 0 < elim n [ zero ↦ 1 | suc m ↦ suc m ]
-some-or-one zero = omega arith
-some-or-one (suc m) = omega arith
 
 module _ {w p b : List ℕ} (body : Body w p b) (ends : Ends w p b 0) where
   -- going on after a row that is not final
@@ -140,9 +137,6 @@ module _ {w p b : List ℕ} (body : Body w p b) (ends : Ends w p b 0) where
         let n : c < clauseCount w r = rw (switch-ends w p b r t u .0) at h in
         omega (arith, ltb-false c (clauseCount w r) z))))
 
-    choices-left : 0 < elim (hasDefault w r) [ true ↦ clauseCount w r | false ↦ suc (clauseCount w r) ]
-    choices-left = case-of (hasDefault w r) (λ z. rw z (default-clause w r z)) (λ z. rw z (omega arith))
-
     selected : (c : ℕ) → class w r ≡ select → RouteState w (clause w p b r c stopped)
     selected c e = case-of (ltb c (clauseCount w r))
         (λ z. rw (z, clause) (clause-of c (rw e) (ltb-true c (clauseCount w r) z)))
@@ -196,8 +190,8 @@ module _ {w p b : List ℕ} (body : Body w p b) (ends : Ends w p b 0) where
       moves defaultCase e = listed (rw e)
       moves comm e = listed (rw e)
       moves defaultComm e = listed (rw e)
-      moves switch e = (choices-left, λ c h. (clause w p b r c (after w r), refl, switched c (rw e) h))
-      moves typeSwitch e = (choices-left, λ c h. (clause w p b r c (after w r), refl, switched c (rw e) h))
-      moves select e = (some-or-one (clauseCount w r), λ c h. (clause w p b r c stopped, refl, selected c e))
+      moves switch e = (clauses-open w p b r, λ c h. (clause w p b r c (after w r), refl, switched c (rw e) h))
+      moves typeSwitch e = (clauses-open w p b r, λ c h. (clause w p b r c (after w r), refl, switched c (rw e) h))
+      moves select e = (comms-open w p b r, λ c h. (clause w p b r c stopped, refl, selected c e))
       moves for e = one-way (first-part (rw e) (rw e))
       moves forCond e = two-ways (first-part (rw e) (rw e)) (past-never (rw e) (λ x. clash (cc)))

@@ -206,3 +206,21 @@ emptyDefault = rowWords (Block 7 ∷ Select 5 ∷ Block 4 ∷ Comm 2 ∷ Return 
 -- a For without its Block, which is refused
 abbrev pub forAlone : List ℕ
 forAlone = rowWords (For 1 ∷ [])
+
+-- ---- bodies for the walk
+
+-- switch {}
+abbrev pub emptySwitch : List ℕ
+emptySwitch = rowWords (Block 3 ∷ Switch 2 ∷ Block 1 ∷ [])
+
+-- select {}
+abbrev pub emptySelect : List ℕ
+emptySelect = rowWords (Block 3 ∷ Select 2 ∷ Block 1 ∷ [])
+
+-- for {}
+abbrev pub emptyFor : List ℕ
+emptyFor = rowWords (Block 3 ∷ For 2 ∷ Block 1 ∷ [])
+
+-- goto L in a Block that ends before it, which is refused
+abbrev pub gotoPastEnd : List ℕ
+gotoPastEnd = rowWords (Block 1 ∷ Goto L ∷ [])

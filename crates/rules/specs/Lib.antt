@@ -12,4 +12,5 @@ pub mod Runner
 pub mod Calls
 pub mod Law
 pub mod Tally
+pub mod Walking
 pub mod Bodies

@@ -30,9 +30,17 @@ const usage = `zesthull marks the function bodies of Go files: label faults, mis
   zesthull rows [-list] -e TEXT
       writes the body file that the program marks reads, of one function, or of a list of statements
       -list      prints the rows instead
+  zesthull walk [-by CHOICES] [-limit N] [-func NAME] FILE|-
+  zesthull walk [-by CHOICES] [-limit N] -e TEXT
+      walks through one function, or a list of statements, and prints each place that it comes to
+      -by 1,0,2  the choices, in the order in which they are met. At an if, for or range 1 is the
+                 body, 0 the else or to go on after it; at a switch or select it is the clause, from
+                 0 on, and after the last clause of a switch without default to go on after it
+      -limit N   the most steps, 1000 if not given and 10000 at most
   zesthull -version
 
-Exit code: 0 clean, 1 faults, 2 something could not be read or was refused.
+Exit code: 0 clean, 1 faults (or, of walk, a choice out of range), 2 something could not be read or
+was refused.
 `
 
 func main() {
@@ -49,6 +57,8 @@ func run(args []string, in io.Reader, out, err io.Writer) int {
 		return markCommand(args[1:], in, out, err)
 	case "rows":
 		return rowsCommand(args[1:], in, out, err)
+	case "walk":
+		return walkCommand(args[1:], in, out, err)
 	case "-version", "--version", "version":
 		fmt.Fprintln(out, "zesthull", calls.Version())
 		return clean

@@ -7,11 +7,8 @@ import (
 	"fmt"
 	"io"
 	"os"
-	"path/filepath"
 
-	"zesthull/internal/mark"
 	"zesthull/internal/rows"
-	"zesthull/internal/script"
 )
 
 func rowsCommand(args []string, in io.Reader, out, errors io.Writer) int {
@@ -28,11 +25,7 @@ func rowsCommand(args []string, in io.Reader, out, errors io.Writer) int {
 		fmt.Fprintln(errors, append([]any{"zesthull rows:"}, values...)...)
 		return unread
 	}
-	s, err := rowsSource(flags, *given, in)
-	if err != nil {
-		return fail(err)
-	}
-	b, err := theBody(mark.Script(s), *name)
+	_, b, err := chosenBody(flags, *given, *name, in)
 	if err != nil {
 		return fail(err)
 	}
@@ -46,73 +39,6 @@ func rowsCommand(args []string, in io.Reader, out, errors io.Writer) int {
 		return fail(err)
 	}
 	return clean
-}
-
-// rowsSource reads the one source that is named.
-func rowsSource(flags *flag.FlagSet, text string, in io.Reader) (*script.Script, error) {
-	given := false
-	flags.Visit(func(f *flag.Flag) { given = given || f.Name == "e" })
-	switch {
-	case given && flags.NArg() > 0 || !given && flags.NArg() != 1:
-		return nil, fmt.Errorf("one source: FILE, - for standard input, or -e TEXT")
-	case given:
-		return script.Read("<text>", []byte(text)), nil
-	case flags.Arg(0) == "-":
-		text, err := io.ReadAll(in)
-		return script.Read("<standard input>", text), err
-	}
-	read, err := os.ReadFile(flags.Arg(0))
-	if err != nil {
-		return nil, err
-	}
-	if filepath.Ext(flags.Arg(0)) == ".go" {
-		return script.ReadFile(flags.Arg(0), read), nil
-	}
-	return script.Read(flags.Arg(0), read), nil
-}
-
-// theBody is the body of that name, or the only one.
-func theBody(r *mark.Result, name string) (*mark.Body, error) {
-	var found []*mark.Body
-	for i := range r.Bodies {
-		b := &r.Bodies[i]
-		if b.Function.Name == name || name == "" && (b.Function.Statements || !r.HasStatements()) {
-			found = append(found, b)
-		}
-	}
-	switch {
-	case len(found) == 0 && name != "":
-		return nil, fmt.Errorf("%s has no function %s", r.Name, name)
-	case len(found) == 0 || !found[0].Marked():
-		return nil, whyNone(r)
-	case len(found) > 1:
-		return nil, fmt.Errorf("%s has %d bodies; -func says which: %s", r.Name, len(found), names(found))
-	}
-	return found[0], nil
-}
-
-func names(bodies []*mark.Body) (list string) {
-	for i, b := range bodies {
-		if i == 8 {
-			return list + ", .."
-		}
-		if i > 0 {
-			list += ", "
-		}
-		list += b.Function.Name
-	}
-	return list
-}
-
-// whyNone says what stands in the way: the first error of the text, or that there is no function.
-func whyNone(r *mark.Result) error {
-	for _, f := range r.Findings {
-		if f.Kind == mark.Syntax || f.Kind == mark.Refused {
-			line, column := r.Place(f.Position)
-			return fmt.Errorf("%s:%d:%d: %s", r.Name, line, column, f.Message)
-		}
-	}
-	return fmt.Errorf("%s has no function", r.Name)
 }
 
 // bodyFile is the file that the program marks reads: three counts, rows, pairs, name bytes; words are little-endian.

@@ -1,5 +1,5 @@
 // Package calls makes the proved calls of the archive libexports.a safe to name: a body's marks, the
-// first branch badly placed, and the version.
+// first branch badly placed, a walk by given choices, and the version.
 package calls
 
 /*
@@ -40,7 +40,7 @@ type Marks struct {
 	Terminating bool
 }
 
-// A Refusal says why there is no answer: document 01's number and index.
+// A Refusal says why there is no answer: the number and index of documents 01 and 02.
 type Refusal struct {
 	Number uint32
 	Index  int
@@ -72,6 +72,47 @@ func FirstMisplaced(b Body) (int, error) {
 		return 0, &Refusal{uint32(number), int(value)}
 	}
 	return int(value) - 1, nil
+}
+
+// A Place is where a walk is: stopped, at the closing brace, or at a row.
+type Place int
+
+const (
+	Stopped Place = iota
+	Brace
+	firstRow
+)
+
+// AtRow is the place of a row.
+func AtRow(row int) Place { return firstRow + Place(row) }
+
+// Row is the row of the place, if it is at one.
+func (p Place) Row() (row int, ok bool) { return int(p - firstRow), p >= firstRow }
+
+// Walked is where a walk came to, by how many steps and choices.
+type Walked struct {
+	Place       Place
+	Steps, Used int
+}
+
+// The refusals of the walk call alone.
+const (
+	// Faulty: the body has label faults or a branch badly placed.
+	Faulty = 8
+	// OutOfRange: the choice of that index isn't open where it is met.
+	OutOfRange = 9
+)
+
+// Walk is the walk call: from row 0 on by the choices, up to limit steps.
+func Walk(b Body, choices []uint32, limit uint) (Walked, error) {
+	var value, steps, used C.size_t
+	number := C.zesthull_walk(words(b.Rows), C.size_t(len(b.Rows)), words(b.Pairs), C.size_t(len(b.Pairs)),
+		bytes(b.Bytes), C.size_t(len(b.Bytes)), words(choices), C.size_t(len(choices)), C.size_t(limit),
+		&value, &steps, &used)
+	if number != 0 {
+		return Walked{}, &Refusal{uint32(number), int(value)}
+	}
+	return Walked{Place(value), int(steps), int(used)}, nil
 }
 
 // Version is the archive's version, as in 0.8.0.

@@ -70,8 +70,11 @@ func TestWordsStay(t *testing.T) {
 	if _, err := Mark(b); err != nil {
 		t.Fatal(err)
 	}
+	if _, err := Walk(b, nil, 9); err == nil {
+		t.Error("a walk of a body with faults")
+	}
 	if !reflect.DeepEqual(b, document) {
-		t.Errorf("%v after the call, %v before", b, document)
+		t.Errorf("%v after the calls, %v before", b, document)
 	}
 }
 

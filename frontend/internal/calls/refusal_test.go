@@ -103,6 +103,8 @@ func TestRefusals(t *testing.T) {
 		check(t, c.name+": Mark", err, c.number, c.index)
 		_, err = FirstMisplaced(c.body)
 		check(t, c.name+": FirstMisplaced", err, c.number, c.index)
+		_, err = Walk(c.body, nil, 0)
+		check(t, c.name+": Walk", err, c.number, c.index)
 	}
 }
 

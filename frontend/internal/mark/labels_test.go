@@ -1,6 +1,11 @@
 package mark
 
-import "testing"
+import (
+	"strings"
+	"testing"
+
+	"zesthull/internal/script"
+)
 
 // Every code of the sheet with its message. 6 comes from no source: go/parser takes no label after fallthrough.
 func TestLabelFaults(t *testing.T) {
@@ -73,4 +78,23 @@ func TestOrder(t *testing.T) {
 		"label M not defined\nbreak is not in a loop, switch, or select\nlabel N not defined\nmissing return\nlabel L defined and not used\n" +
 			"continue is not in a loop\nmissing return\nlabel B defined and not used\nlabel A defined and not used\nlabel C defined and not used"}
 	c.try(t)
+}
+
+// Faults are those of one body: label faults and misplaced branches, in the order of their places, and no missing return.
+func TestFaultsOfBody(t *testing.T) {
+	const text = "package p; func f() int { break; func() { goto M }(); for {}; L: continue }; func g() int {}"
+	r := Script(script.ReadFile("", []byte(text)))
+	wanted := [][]string{{noBreak, "label L defined and not used", noContinue}, {"label M not defined"}, {}}
+	for i := range r.Bodies {
+		var got []string
+		for _, f := range r.Faults(&r.Bodies[i]) {
+			got = append(got, f.Message)
+		}
+		if strings.Join(got, "\n") != strings.Join(wanted[i], "\n") {
+			t.Errorf("%s: %q, not %q", r.Bodies[i].Title(), got, wanted[i])
+		}
+	}
+	if len(r.Findings) != 6 {
+		t.Errorf("%d findings of the script", len(r.Findings))
+	}
 }

@@ -48,8 +48,21 @@ func Script(s *script.Script) *Result {
 			r.missingReturn(&b)
 		}
 	}
-	sort.SliceStable(r.Findings, func(i, j int) bool { return r.Findings[i].Position < r.Findings[j].Position })
+	r.sort()
 	return r
+}
+
+func (r *Result) sort() {
+	sort.SliceStable(r.Findings, func(i, j int) bool { return r.Findings[i].Position < r.Findings[j].Position })
+}
+
+// Faults are the label faults and the misplaced branches of one body, in the order of their places.
+func (r *Result) Faults(b *Body) []Finding {
+	one := Result{Script: r.Script}
+	one.label(b)
+	one.misplaced(b)
+	one.sort()
+	return one.Findings
 }
 
 func body(s *script.Script, f script.Function) Body {

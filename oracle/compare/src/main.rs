@@ -1,10 +1,13 @@
-//! Compares the port with goscript on bodies of many sorts.
+//! Compares the port with goscript on bodies of many sorts, and its walks with
+//! document 01's runner.
 
+mod course;
 mod difference;
 mod edges;
 mod failure;
 mod go;
 mod kinds;
+mod lawful;
 mod lent;
 mod letters;
 mod names;
@@ -16,12 +19,16 @@ mod port;
 mod progress;
 mod random;
 mod run;
+mod runner;
 mod shapes;
 mod show;
 mod shrink;
 mod stock;
 mod table;
 mod tally;
+mod walk;
+mod walked;
+mod walks;
 mod well_formed;
 mod words;
 

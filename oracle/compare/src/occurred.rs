@@ -2,6 +2,7 @@
 
 use crate::numbers::grouped;
 use crate::tally::Tally;
+use crate::walked::Walked;
 use crate::well_formed;
 use oracle::{Body, Marks};
 
@@ -11,8 +12,8 @@ pub struct Occurred {
     codes: [u64; 10],
     /// Rows of each kind in well-formed bodies.
     kinds: [u64; 21],
-    /// Bodies and words with each refusal; 0 is none.
-    refusals: [u64; 8],
+    /// Bodies and words with each refusal, walks with 9; 0 is none.
+    refusals: [u64; 10],
     /// Bodies badly placed and well placed.
     placed: [u64; 2],
     /// Bodies with verdict no and yes.
@@ -22,6 +23,8 @@ pub struct Occurred {
     same_verdict: u64,
     /// The labelled branches of all bodies.
     tally: Tally,
+    /// The walks of all bodies without faults.
+    walked: Walked,
 }
 
 impl Occurred {
@@ -43,6 +46,9 @@ impl Occurred {
         self.tally.labelled += seen.tally.labelled;
         self.tally.bound += seen.tally.bound;
         self.tally.unbound += seen.tally.unbound;
+        self.refusals[8] += seen.walked.faulty;
+        self.refusals[9] += seen.walked.out_of_range();
+        self.walked.add(&seen.walked);
     }
 
     pub fn refused(&mut self, number: u32) {
@@ -64,15 +70,16 @@ impl Occurred {
         look("verdict (0 no, 1 yes)", 0, &self.verdicts);
         look("domain of stock's", 1, &[self.same_labels, self.same_verdict]);
         look("labelled branch (1 bound, 2 not)", 1, &[self.tally.bound, self.tally.unbound]);
+        look("step from kind", 0, &self.walked.kinds);
+        let never = |(_, count): &(&str, u64)| *count == 0;
+        missing.extend(
+            self.walked.by_branch().filter(never).map(|(name, _)| format!("step by {name}")),
+        );
+        missing.extend(self.walked.by_end().filter(never).map(|(name, _)| format!("walk {name}")));
         missing
     }
 
     pub fn show(&self) {
-        let list = |first: usize, counts: &[u64]| -> String {
-            let each = counts.iter().enumerate();
-            let texts = each.map(|(i, &count)| format!("{}: {}", first + i, grouped(count)));
-            texts.collect::<Vec<String>>().join("  ")
-        };
         println!("\nOccurred in well-formed bodies");
         println!("  sheet rows of code  {}", list(1, &self.codes[1..]));
         println!("  rows of kind  {}", list(0, &self.kinds));
@@ -90,5 +97,29 @@ impl Occurred {
         let Tally { labelled, bound, unbound } = self.tally;
         let [labelled, bound, unbound] = [labelled, bound, unbound].map(grouped);
         println!("Labelled branches {labelled}: bound {bound}, on the sheet with 4 to 8 {unbound}");
+        self.show_walks();
     }
+
+    fn show_walks(&self) {
+        let Walked { bodies, walks, steps, used, kinds, .. } = &self.walked;
+        let [bodies, walks] = [bodies, walks].map(|&count| grouped(count));
+        let [steps, used] = [steps, used].map(|&count| grouped(count));
+        println!("Walks {walks}, of {bodies} bodies without faults: steps {steps}, choices {used}");
+        println!("  {}", named(self.walked.by_end()));
+        println!("  steps from kind  {}", list(0, kinds));
+        println!("  steps by {}", named(self.walked.by_branch()));
+    }
+}
+
+/// Counts with their names.
+fn named<'a>(counts: impl Iterator<Item = (&'a str, u64)>) -> String {
+    let texts = counts.map(|(name, count)| format!("{name} {}", grouped(count)));
+    texts.collect::<Vec<String>>().join(", ")
+}
+
+/// Counts with their numbers.
+fn list(first: usize, counts: &[u64]) -> String {
+    let each = counts.iter().enumerate();
+    let texts = each.map(|(i, &count)| format!("{}: {}", first + i, grouped(count)));
+    texts.collect::<Vec<String>>().join("  ")
 }

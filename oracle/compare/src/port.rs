@@ -1,8 +1,10 @@
 //! The port's calls on a body, as the oracle tells its answers.
 
 use crate::lent::Lent;
+use crate::runner::State;
+use crate::walk::Walk;
 use oracle::{Answer, Body, Marks, Words};
-use zesthull::Refusal;
+use zesthull::{Place, Refusal};
 
 pub fn lend(body: &Body) -> zesthull::Body<'_> {
     let (rows, pairs) = (body.rows.as_flattened(), body.pairs.as_flattened());
@@ -34,6 +36,17 @@ fn marks(body: zesthull::Body, lent: &Lent, told: zesthull::Marks) -> Marks {
     let answer = Answer { sheet, bindings, terminating: told.terminating };
     let row = |row: usize| u32::try_from(row).unwrap_or(u32::MAX);
     Marks { answer, badly_placed: told.badly_placed.map(row) }
+}
+
+/// The walk call.
+pub fn walk(body: &Body, choices: &[u32], limit: usize) -> Result<Walk, Refusal> {
+    let zesthull::Walk { place, steps, used } = zesthull::walk(lend(body), choices, limit)?;
+    let place = match place {
+        Place::Row(row) => State::Row(row),
+        Place::Stopped => State::Stopped,
+        Place::Brace => State::Brace,
+    };
+    Ok(Walk { place, steps, used })
 }
 
 /// A refusal or none, as text.

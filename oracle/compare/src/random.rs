@@ -1,5 +1,6 @@
 //! The random bodies to compare on.
 
+use crate::lawful::lawful;
 use oracle::bodies::{people, random, with_any_bytes, Rng, Shape};
 use oracle::Body;
 
@@ -21,8 +22,8 @@ const fn damaged(name: &'static str, share: u64, make: fn(&mut Rng) -> Body) -> 
     Source { name, share, damaged: true, make }
 }
 
-pub const RANDOM: [Source; 11] = [
-    bodies("random, up to 12 rows", 300, |rng| any(rng, 12)),
+pub const RANDOM: [Source; 14] = [
+    bodies("random, up to 12 rows", 220, |rng| any(rng, 12)),
     bodies("random, up to 60 rows", 140, |rng| any(rng, 60)),
     bodies("random, up to 400 rows", 26, |rng| any(rng, 400)),
     bodies("random, up to 2,000 rows", 4, |rng| any(rng, 2_000)),
@@ -33,6 +34,9 @@ pub const RANDOM: [Source; 11] = [
     damaged("damaged, up to 12 rows", 200, |rng| any(rng, 12)),
     damaged("damaged, up to 100 rows", 96, |rng| any(rng, 100)),
     damaged("damaged, up to 2,000 rows", 4, |rng| any(rng, 2_000)),
+    bodies("without faults, up to 40 rows", 60, |rng| without_faults(rng, 40)),
+    bodies("without faults, up to 400 rows", 18, |rng| without_faults(rng, 400)),
+    bodies("without faults, to 2,000 rows", 2, |rng| without_faults(rng, 2_000)),
 ];
 
 fn any(rng: &mut Rng, rows: usize) -> Body {
@@ -55,6 +59,15 @@ fn utf8_names(rng: &mut Rng) -> Body {
 fn any_bytes(rng: &mut Rng) -> Body {
     let body = utf8_names(rng);
     with_any_bytes(rng, body)
+}
+
+/// With more forks and fewer gotos than others, so that walks go far.
+fn without_faults(rng: &mut Rng, rows: usize) -> Body {
+    let (labels, gotos, breaks) =
+        (rng.pick(&[1, 4, 10]), rng.pick(&[0, 1, 3]), rng.pick(&[1, 4, 10]));
+    let shape = Shape { names: 1, named: 1, labels, gotos, breaks, ..Shape::any(rng, rows) };
+    let from = random(rng, shape);
+    lawful(rng, &from)
 }
 
 fn as_people(rng: &mut Rng) -> Body {

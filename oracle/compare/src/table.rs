@@ -30,7 +30,9 @@ const COMPARED: &str = "
 answers: of each body not refused; refusal (none), sheet, bindings and verdict
   with goscript, mended; placing and names with document 01 read plainly; the
   marks call with all of these; sheet and bindings lent longer than needed, as
-  long, and one word short; stock inside its domains; and goscript's labelled
-  branches add up, those bound and those on the sheet
+  long, and one word short; stock inside its domains; goscript's labelled
+  branches add up, those bound and those on the sheet; walks of bodies without
+  faults by random choices with document 01's runner read plainly, and refusal 8
+  of bodies with a fault
 refusals: of words refused; number and index in every call with document 01
   read plainly; no lent word changed; names";

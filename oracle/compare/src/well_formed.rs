@@ -6,6 +6,8 @@ use crate::names;
 use crate::port::{at_once, lend, one_by_one, refusal_text};
 use crate::stock::{self, Beside};
 use crate::tally::{self, Tally};
+use crate::walked::Walked;
+use crate::walks;
 use oracle::{Body, Marks};
 use zesthull::Refusal;
 
@@ -19,6 +21,7 @@ pub struct Seen {
     pub marks: Marks,
     pub stock: Beside,
     pub tally: Tally,
+    pub walked: Walked,
 }
 
 pub fn check(body: &Body) -> Checked<Seen> {
@@ -35,7 +38,8 @@ pub fn check(body: &Body) -> Checked<Seen> {
     names::check(body.pairs.as_flattened(), &body.bytes)?;
     let stock = stock::check(body, &marks.answer)?;
     let tally = tally::check(body, &marks.answer)?;
-    Ok(Seen { marks, stock, tally })
+    let walked = walks::check(body, &marks)?;
+    Ok(Seen { marks, stock, tally, walked })
 }
 
 type Call = fn(zesthull::Body, &mut Lent) -> Result<Marks, Refusal>;

@@ -11,7 +11,7 @@ use zesthull::Refusal;
 /// What was seen where nothing differs.
 pub enum Seen {
     Refused(u32),
-    WellFormed(Body, well_formed::Seen),
+    WellFormed(Body, Box<well_formed::Seen>),
 }
 
 pub fn check(words: &Words) -> Checked<Seen> {
@@ -25,7 +25,7 @@ pub fn check(words: &Words) -> Checked<Seen> {
         Some(refusal) => refused(words, refusal),
         None => {
             let body = Body::of_words(words);
-            well_formed::check(&body).map(|seen| Seen::WellFormed(body, seen))
+            well_formed::check(&body).map(|seen| Seen::WellFormed(body, Box::new(seen)))
         }
     }
 }
@@ -33,11 +33,12 @@ pub fn check(words: &Words) -> Checked<Seen> {
 type Call = fn(zesthull::Body, &mut Lent) -> Option<Refusal>;
 
 /// The other calls, as far as they refuse.
-const CALLS: [(&str, Call); 4] = [
+const CALLS: [(&str, Call); 5] = [
     ("label call", |body, lent| zesthull::labels(body, &mut lent.sheet, &mut lent.bindings).err()),
     ("placing call", |body, _| zesthull::placing(body).err()),
     ("verdict call", |body, _| zesthull::verdict(body).err()),
     ("marks call", |body, lent| zesthull::marks(body, &mut lent.sheet, &mut lent.bindings).err()),
+    ("walk call", |body, _| zesthull::walk(body, &[u32::MAX], 9).err()),
 ];
 
 /// Every call gives the same refusal and writes nothing, be the buffers long

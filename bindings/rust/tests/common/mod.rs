@@ -4,13 +4,14 @@
 
 pub mod bodies;
 
-use zesthull::{Body, Marks, Refusal};
+use zesthull::{Body, Marks, Place, Refusal, Walk};
 
 pub const EMPTY: u32 = 2;
 pub const LABELED: u32 = 3;
 pub const RETURN: u32 = 10;
 pub const BRANCH: u32 = 11;
 pub const BLOCK: u32 = 12;
+pub const IF: u32 = 13;
 
 /// The words of a body.
 #[derive(Clone, Debug, PartialEq)]
@@ -87,10 +88,21 @@ pub fn expect_answer(what: &str, words: &Words, answer: Answer) {
     assert_eq!(zesthull::refusal(words.body()), Ok(()), "refusal of {what}");
     assert_eq!(zesthull::placing(words.body()), Ok(answer.placing), "placing of {what}");
     assert_eq!(zesthull::verdict(words.body()), Ok(answer.verdict), "verdict of {what}");
+    expect_first_place(what, words, answer);
     for more in [0, 1, 9] {
         expect_written(what, words, answer, more);
     }
     assert_eq!(*words, before, "the words of {what}");
+}
+
+/// Tries the walk that stays at row 0; where the body has a fault it is refused.
+#[track_caller]
+fn expect_first_place(what: &str, words: &Words, answer: Answer) {
+    let due = match answer.sheet.is_empty() && answer.placing.is_none() {
+        true => Ok(Walk { place: Place::Row(0), steps: 0, used: 0 }),
+        false => Err(Refusal { number: 8, index: 0 }),
+    };
+    assert_eq!(zesthull::walk(words.body(), &[9], 0), due, "walk of {what}");
 }
 
 /// Tries the label call and the marks with so many words more than they need.
@@ -122,6 +134,8 @@ pub fn expect_refusal(what: &str, words: &Words, number: u32, index: usize) {
     assert_eq!(zesthull::refusal(words.body()), Err(refusal), "refusal of {what}");
     assert_eq!(zesthull::placing(words.body()), Err(refusal), "placing of {what}");
     assert_eq!(zesthull::verdict(words.body()), Err(refusal), "verdict of {what}");
+    assert_eq!(zesthull::walk(words.body(), &[], 0), Err(refusal), "walk of {what}");
+    assert_eq!(zesthull::walk(words.body(), &[9], 9), Err(refusal), "walk of {what} by a choice");
     let rows = words.row_count();
     expect_unwritten(what, words, (8 * rows + 8, rows + 1), refusal);
     assert_eq!(*words, before, "the words of {what}");
