@@ -1,13 +1,13 @@
 -- The table of the allowed details: it has 21 lines of at most 4 entries, and it says of which rows a name is due, of which it may stand, and of which not.
 -- Each rule of the table is one test that computes at every entry. Assumes nothing.
-use mathlib.Core.Path.{_≡_, refl, sym, _∙_, ap}
+use mathlib.Core.Path.{_≡_, refl, sym, _∙_}
 use mathlib.Core.Bool.{Bool, true, false, _&&_, _||_, not}
-use mathlib.Core.List.{List, [], _∷_}
+use mathlib.Core.List.{[], _∷_}
 use Prim.Native.Nat.{ℕ, zero, suc, _<_, _≤_}
 use native.Mathlib.Omega.{arith}
 use lib.Dec.{ltb, leb, eqb}
 use lib.ListN.{length, getD, List·getD-eq-default}
-use borrow.Author.Tests.{eqb-true, ltb-true, ltb-false, leb-true, le-ltb, le-leb, lt-leb, ne-eqb}
+use borrow.Author.Tests.{ltb-true, ltb-false, leb-true, le-ltb, le-leb, lt-leb, ne-eqb}
 use Rattle.rules.specs.Scan.{lowest}
 use Rattle.rules.specs.Class.{Class, labeled, goto, classes, detailAllowed, classOf, oneOf, isBranch}
 use Rattle.rules.specs.Refusals.{nameAllowed}
@@ -28,14 +28,6 @@ unfolding detailAllowed
 allowed-small k d a = case-of (ltb k 21)
     (λ t. let h = ltb-true k 21 t in (h, omega (arith, few-details k h, ltb-true d (length (getD classes k [])) a)))
     (λ f. let z : false ≡ true = sym (past-kinds k d (ltb-false k 21 f)) ∙ a in absurd (clash (cc)))
-
--- a list of how many details each kind allows decides as the table does
-pub by-entries : (l : List ℕ) (k d : ℕ) → k < 21 → every 21 (λ j. eqb (getD l j 0) (length (getD classes j []))) ≡ true →
-    ltb d (getD l k 0) ≡ detailAllowed k d
-unfolding detailAllowed
-by-entries l k d h e =
-    let s = every-at 21 (λ j. eqb (getD l j 0) (length (getD classes j []))) e k h in
-    ap (ltb d) (eqb-true (getD l k 0) (length (getD classes k [])) s)
 
 -- a rule of all allowed kinds and details
 pub of-allowed : (P : ℕ → ℕ → Bool) → every 21 (λ k. every 4 (λ d. implies (detailAllowed k d) (P k d))) ≡ true →
