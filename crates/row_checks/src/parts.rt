@@ -6,9 +6,8 @@ ghost use mathlib.Core.Path.{_≡_};
 ghost use mathlib.Core.Bool.{true};
 ghost use Prim.Native.Nat.{ℕ, _≤_, _<_};
 ghost use Rattle.rules.specs.Rows.{rowCount, end as endOf};
-ghost use Rattle.rules.specs.Class.{detailAllowed, classOf, class};
-ghost use Rattle.rules.specs.Refusals.{Holding as Holds, holding as holdingOf, mayHold};
-ghost use Rattle.shape.specs.DetailedTo.{DetailedTo};
+ghost use Rattle.rules.specs.Class.{detailAllowed, classOf};
+ghost use Rattle.rules.specs.Refusals.{Holding as Holds, mayHold};
 ghost use Rattle.shape.specs.Held.{held};
 ghost use Rattle.row_checks.specs.Parts.{isList, itemKind, OneChild, TwoParts, Parts};
 
@@ -80,11 +79,10 @@ pub fn holds_list(holding: Holding) -> bool
 }
 
 // The kind that each item of the list has: Case or Comm, or 0 where any statement may stand.
-pub fn item_kind(rows: &[u32], row: RowNumber) -> u32
-    requires { ⌜ (row .0 < rowCount (now rows)) × DetailedTo (now rows) (row .0) ⌝ }
-    ensures { λ r. ⌜ r ≡ itemKind (holdingOf (class (now (rows .entry)) (row .0))) ⌝ }
+pub fn item_kind(holding: Holding) -> u32
+    ensures { λ r. ⌜ r ≡ itemKind (held holding) ⌝ }
 {
-    match shape::holding_at(rows, row) {
+    match holding {
         Holding::Cases => kinds::CASE,
         Holding::Comms => kinds::COMM,
         _ => 0,

@@ -18,7 +18,7 @@ use Rattle.rules.specs.Refusals.{Holding, holding, badRow}
 use Rattle.rules.proofs.Every.{every, of-classes, implies, implied}
 use Rattle.rules.proofs.Facts.{good-row}
 use Rattle.shape.specs.DetailedTo.{DetailedTo}
-use Rattle.row_checks.specs.Parts.{isList, TwoParts, Parts}
+use Rattle.row_checks.specs.Parts.{isList, itemKind, TwoParts, Parts}
 use Rattle.row_checks.specs.Right.{Right, RightBelow, Met}
 use Rattle.rows_fit.proofs.Deeper.{deeper}
 use Rattle.row_checks.proofs.RightRows.{never, right-size, right-shape, shape-right, Fit}
@@ -135,12 +135,12 @@ module _ {w p : List ℕ} {b s g c d : ℕ} (a : Turn w p b s g c d) where
   row-known = (in-rows .0, details-to)
 
   -- a list has at most as many rows as the statement
-  pub list-call : {t : ℕ} → 2 * size w b + 1 ≡ t → {h : Holding} → h ≡ holding (class w c) → isList h ≡ true
-      → (2 * size w c < t) × (Met w c d × DetailedTo w c × (isList (holding (class w c)) ≡ true))
-  list-call q e y =
+  pub list-call : {t : ℕ} → 2 * size w b + 1 ≡ t → {h : Holding} → h ≡ holding (class w c) → isList h ≡ true → {i : ℕ} → i ≡ itemKind h
+      → (2 * size w c < t) × (Met w c d × DetailedTo w c × (isList (holding (class w c)) ≡ true) × (i ≡ itemKind (holding (class w c))))
+  list-call q e y k =
       let z = a .start .size-is in
       let l = a .going .low in
-      (omega (arith, here .within), (row-met, details-to, rw (← e) y))
+      (omega (arith, here .within), (row-met, details-to, rw (← e) y, rw (← e) k))
     where
       row-met : Met w c d
       row-met =

@@ -17,7 +17,7 @@ ghost use Rattle.rules.specs.Names.{pairCount};
 ghost use Rattle.rules.specs.Refusals.{holding as holdingOf};
 ghost use Rattle.shape.specs.DetailedTo.{DetailedTo};
 ghost use Rattle.row_checks.specs.Right.{Right, RightBelow, Met};
-ghost use Rattle.row_checks.specs.Parts.{isList};
+ghost use Rattle.row_checks.specs.Parts.{isList, itemKind};
 
 // Whether none of the causes 4, 5 and 6 applies to the statement, which is so deep, and to the rows
 // below it. A row whose only child fills it is followed by that child; only lists take a call.
@@ -39,7 +39,7 @@ fn statement_fits(rows: &[u32], pair_count: usize, row: RowNumber, depth: usize)
         }
         let holding = shape::holding_at(rows, r);
         if holds_list(holding) {
-            if !list_fits(rows, pair_count, r, d) {
+            if !list_fits(rows, pair_count, r, d, item_kind(holding)) {
                 return false;
             }
             c += rows::size(rows, r);
@@ -54,16 +54,17 @@ fn statement_fits(rows: &[u32], pair_count: usize, row: RowNumber, depth: usize)
     true
 }
 
-// The same of the rows below a list, which is so deep. Plain items are passed in runs.
-fn list_fits(rows: &[u32], pair_count: usize, row: RowNumber, depth: usize) -> bool
-    requires { ⌜ Met (now rows) (row .0) depth × DetailedTo (now rows) (row .0) × (isList (holdingOf (class (now rows) (row .0))) ≡ true) ⌝ }
+// The same of the rows below a list, which is so deep and whose items have this kind. Plain items are
+// passed in runs.
+fn list_fits(rows: &[u32], pair_count: usize, row: RowNumber, depth: usize, items: u32) -> bool
+    requires { ⌜ Met (now rows) (row .0) depth × DetailedTo (now rows) (row .0) × (isList (holdingOf (class (now rows) (row .0))) ≡ true)
+        × (items ≡ itemKind (holdingOf (class (now rows) (row .0)))) ⌝ }
     ensures { λ r. ⌜ (r ≡ true → (p : List ℕ) → pairCount p ≡ «pair_count» → RightBelow (now (rows .entry)) p (row .0)) ⌝ }
 {
     let end = row.0 + rows::size(rows, row);
     if 99 < depth {
         return end == row.0 + 1;
     }
-    let items = item_kind(rows, row);
     let mut c = row.0 + 1;
     while c < end {
         if items == 0 {
@@ -103,5 +104,5 @@ pub fn well_formed_rows(rows: &[u32], pairs: &[u32]) -> bool
     if !shape::is_body(rows) {
         return false;
     }
-    list_fits(rows, pair_count, root, 1)
+    list_fits(rows, pair_count, root, 1, 0)
 }

@@ -64,17 +64,15 @@ statement-fits-below t =
     statement-fits.Pre
 
 abbrev list-fits-Inv-loop : list-fits-lts.InvT-loop
-list-fits-Inv-loop rows pair-count depth end items c₀ c = ListedFrom rows (somePairs pair-count) c₀ end c
+list-fits-Inv-loop rows pair-count depth items end c₀ c = ListedFrom rows (somePairs pair-count) c₀ end c
 
 abbrev list-fits-μ-loop : list-fits-lts.MeasureT-loop
-list-fits-μ-loop rows pair-count depth end items c₀ c = end - c
+list-fits-μ-loop rows pair-count depth items end c₀ c = end - c
 
 abbrev list-fits-calls : ℕ → list-fits-lts.Claims
 list-fits-calls t = (
   size-reads.Asked,
   size-reads.Learnt,
-  item-kind-reads.Asked,
-  item-kind-reads.Learnt,
   end-of-items-reads.Asked,
   end-of-items-reads.Learnt,
   kind-reads.Asked,
@@ -95,6 +93,8 @@ statement-fits-calls t = (
   holding-at-reads.Learnt,
   holds-list-reads.Asked,
   holds-list-reads.Learnt,
+  item-kind-reads.Asked,
+  item-kind-reads.Learnt,
   list-fits-below t,
   list-fits.Post,
   parts-fit-reads.Asked,
@@ -119,11 +119,11 @@ list-fits-at-start-2 c = c .before .before .before .before .before
 
 abbrev list-fits-at-if1-1 : {t : ℕ} → list-fits-lts.After-loop (list-fits-calls t) (list-fits-at t) list-fits.Post list-fits-Inv-loop list-fits-μ-loop
     → list-fits-lts.Else1 (list-fits-calls t) (list-fits-at t) list-fits.Post list-fits-Inv-loop list-fits-μ-loop
-list-fits-at-if1-1 c = c .before .before .before .before
+list-fits-at-if1-1 c = c .before .before .before
 
 abbrev list-fits-at-if1-2 : {t : ℕ} → list-fits-lts.Joined2 (list-fits-calls t) (list-fits-at t) list-fits.Post list-fits-Inv-loop list-fits-μ-loop
     → list-fits-lts.Else1 (list-fits-calls t) (list-fits-at t) list-fits.Post list-fits-Inv-loop list-fits-μ-loop
-list-fits-at-if1-2 c = c .before .before .before .before .before
+list-fits-at-if1-2 c = c .before .before .before .before
 
 abbrev list-fits-at-if3-1 : {t : ℕ} → list-fits-lts.After-row-known (list-fits-calls t) (list-fits-at t) list-fits.Post list-fits-Inv-loop list-fits-μ-loop
     → list-fits-lts.Then3 (list-fits-calls t) (list-fits-at t) list-fits.Post list-fits-Inv-loop list-fits-μ-loop
@@ -150,10 +150,6 @@ abbrev list-fits-at-if2-1 : {t : ℕ} → list-fits-lts.Else7 (list-fits-calls t
     → list-fits-lts.Joined2 (list-fits-calls t) (list-fits-at t) list-fits.Post list-fits-Inv-loop list-fits-μ-loop
 list-fits-at-if2-1 c = list-fits-at-if3-1 (c .before .before .before) .before
 
-abbrev list-fits-at-item-kind-1 : {t : ℕ} → list-fits-lts.Else7 (list-fits-calls t) (list-fits-at t) list-fits.Post list-fits-Inv-loop list-fits-μ-loop
-    → list-fits-lts.After-item-kind (list-fits-calls t) (list-fits-at t) list-fits.Post list-fits-Inv-loop list-fits-μ-loop
-list-fits-at-item-kind-1 c = list-fits-at-if2-1 c .before .before .before .before
-
 list-known : (t : ℕ) (c : list-fits-lts.Else1 (list-fits-calls t) (list-fits-at t) list-fits.Post list-fits-Inv-loop list-fits-μ-loop) → List-known t c
 list-known t c =
     let s = list-fits-at-start-1 c in
@@ -162,29 +158,29 @@ list-known t c =
 -- past a run of plain items the walk stands at the next item, or has come to the end
 abbrev Past-run : (t : ℕ) → list-fits-lts.Joined2 (list-fits-calls t) (list-fits-at t) list-fits.Post list-fits-Inv-loop list-fits-μ-loop → Type 0
 Past-run t c =
-    let m = c .before .before .before .before .before in
+    let m = c .before .before .before .before in
     let a = m .before .before .before .before .args in
     (c .before .before .loop .c ≤ c .if2 .c)
     × Listed (a .rows .now) (somePairs (a .pair-count)) (a .row .0) (a .row .0 + m .before .before .size .result) (c .if2 .c)
 
 past-run : (t : ℕ) (c : list-fits-lts.Joined2 (list-fits-calls t) (list-fits-at t) list-fits.Post list-fits-Inv-loop list-fits-μ-loop) → Past-run t c
 past-run t c =
-    let m = c .before .before .before .before .before in
+    let m = c .before .before .before .before in
     let o = c .before .before .loop .inv _ refl in
     ⊎-elim
-    (λ a. to-item (list-known t m) (omega (arith, m .if1 .left)) (c .before .before .before .before .item-kind .ensures) (a .0 .taken) o (a .1 .ensures) (a .2))
+    (λ a. to-item (list-known t m) (omega (arith, m .if1 .left)) (list-fits-at-start-1 m .pre .1 .3) (a .0 .taken) o (a .1 .ensures) (a .2))
     (λ a. at-item o (a .1))
     (c .if2 .came)
 
 item-in-rows : (t : ℕ) (c : list-fits-lts.Then3 (list-fits-calls t) (list-fits-at t) list-fits.Post list-fits-Inv-loop list-fits-μ-loop)
-    → c .before .if2 .c < rowCount (c .before .before .before .before .before .before .before .before .before .before .args .rows .now)
+    → c .before .if2 .c < rowCount (c .before .before .before .before .before .before .before .before .before .args .rows .now)
 item-in-rows t c = omega (arith, stands-in (past-run t (c .before) .1) .1, c .if3 .taken)
 
 -- what is known of the item before it is walked
 abbrev Item-known : (t : ℕ) → list-fits-lts.Else6 (list-fits-calls t) (list-fits-at t) list-fits.Post list-fits-Inv-loop list-fits-μ-loop → Type 0
 Item-known t c =
     let j = c .before .before .before .before .before .before .before .before in
-    let m = j .before .before .before .before .before in
+    let m = j .before .before .before .before in
     let a = m .before .before .before .before .args in
     Item-at (a .rows .now) (somePairs (a .pair-count)) (a .row .0) (m .before .before .size .result) (a .depth) (j .if2 .c)
     (c .before .before .before .size2 .result)
@@ -213,15 +209,11 @@ list-fits-add-result t c = omega (arith, list-fits-at-start-2 c .pre .1 .0 .row,
 list-fits-returns : (t : ℕ) → list-fits-lts.Need-returns (list-fits-calls t) (list-fits-at t) list-fits.Post list-fits-Inv-loop list-fits-μ-loop
 list-fits-returns t c y p e = no-items _ p _ (c .before .before .before .size .ensures) (list-fits-at-start-2 c .pre .1 .2) (eqb-true _ _ y)
 
-list-fits-item-kind-requires : (t : ℕ)
-    → list-fits-lts.Need-item-kind-requires (list-fits-calls t) (list-fits-at t) list-fits.Post list-fits-Inv-loop list-fits-μ-loop
-list-fits-item-kind-requires t c κs = (list-fits-at-start-1 c .pre .1 .0 .row, list-fits-at-start-1 c .pre .1 .1)
-
 list-fits-add-c : (t : ℕ) → list-fits-lts.Need-add-c (list-fits-calls t) (list-fits-at t) list-fits.Post list-fits-Inv-loop list-fits-μ-loop
-list-fits-add-c t c = omega (arith, list-fits-at-start-1 (c .before .before) .pre .1 .0 .row, list-fits-at-start-1 (c .before .before) .pre .1 .0 .most-rows)
+list-fits-add-c t c = omega (arith, list-fits-at-start-1 (c .before) .pre .1 .0 .row, list-fits-at-start-1 (c .before) .pre .1 .0 .most-rows)
 
 list-fits-loop-holds : (t : ℕ) → list-fits-lts.Need-loop-holds (list-fits-calls t) (list-fits-at t) list-fits.Post list-fits-Inv-loop list-fits-μ-loop
-list-fits-loop-holds t c = from-first (begins (somePairs _) (list-known t (c .before .before)))
+list-fits-loop-holds t c = from-first (begins (somePairs _) (list-known t (c .before)))
 
 list-fits-end-of-items-requires : (t : ℕ)
     → list-fits-lts.Need-end-of-items-requires (list-fits-calls t) (list-fits-at t) list-fits.Post list-fits-Inv-loop list-fits-μ-loop
@@ -281,7 +273,7 @@ list-fits-loop-less t c =
 list-fits-loop-again : (t : ℕ) → list-fits-lts.Need-loop-again (list-fits-calls t) (list-fits-at t) list-fits.Post list-fits-Inv-loop list-fits-μ-loop
 list-fits-loop-again t c =
     let k = list-fits-at-if4-1 c .before .before in
-    from-first (past-item (item-known t (c .before .before)) (list-fits-at-item-kind-1 c .item-kind .ensures) (k .kind .ensures)
+    from-first (past-item (item-known t (c .before .before)) (list-fits-at-start-3 (c .before .before) .pre .1 .3) (k .kind .ensures)
     (list-fits-at-if4-1 c .before .may-be-item .ensures) (not-false _ (list-fits-at-if4-1 c .if4 .left))
     (c .before .statement-fits .ensures (not-false _ (c .if7 .left)) (somePairs _) (so-many _)))
 
@@ -344,7 +336,7 @@ statement-fits-at-holding-at-1 c = c .before .before .before .before
 abbrev statement-fits-at-if2-1 : {t : ℕ}
     → statement-fits-lts.Else4 (statement-fits-calls t) (statement-fits-at t) statement-fits.Post statement-fits-Inv-loop statement-fits-μ-loop
     → statement-fits-lts.Else2 (statement-fits-calls t) (statement-fits-at t) statement-fits.Post statement-fits-Inv-loop statement-fits-μ-loop
-statement-fits-at-if2-1 c = c .before .before .before .before .before
+statement-fits-at-if2-1 c = c .before .before .before .before .before .before
 
 abbrev statement-fits-at-loop-test-1 : {t : ℕ}
     → statement-fits-lts.Else5 (statement-fits-calls t) (statement-fits-at t) statement-fits.Post statement-fits-Inv-loop statement-fits-μ-loop
@@ -400,13 +392,19 @@ statement-fits-holds-list-requires : (t : ℕ)
     statement-fits-μ-loop
 statement-fits-holds-list-requires t c κs = search needs
 
+statement-fits-item-kind-requires : (t : ℕ)
+    → statement-fits-lts.Need-item-kind-requires (statement-fits-calls t) (statement-fits-at t) statement-fits.Post statement-fits-Inv-loop
+    statement-fits-μ-loop
+statement-fits-item-kind-requires t c κs = search needs
+
 statement-fits-list-fits-requires : (t : ℕ)
     → statement-fits-lts.Need-list-fits-requires (statement-fits-calls t) (statement-fits-at t) statement-fits.Post statement-fits-Inv-loop
     statement-fits-μ-loop
 statement-fits-list-fits-requires t c κs =
-    let h = c .before .before in
-    list-call (turn-known t (c .before .before .before)) (statement-fits-at-start-1 c .pre .0) (h .holding-at .ensures)
-    (sym (c .before .holds-list .ensures) ∙ c .if3 .taken)
+    let l = c .before in
+    let h = l .before .before in
+    list-call (turn-known t (h .before)) (statement-fits-at-start-1 l .pre .0) (h .holding-at .ensures) (sym (l .before .holds-list .ensures) ∙ l .if3 .taken)
+    (c .item-kind .ensures)
 
 statement-fits-returns-3 : (t : ℕ)
     → statement-fits-lts.Need-returns-3 (statement-fits-calls t) (statement-fits-at t) statement-fits.Post statement-fits-Inv-loop statement-fits-μ-loop
@@ -473,7 +471,6 @@ pub +list-fits+statement-fits-spec : {M : Type 1} → statement M
     (list-fits-add-end t)
     (list-fits-add-result t)
     (list-fits-returns t)
-    (list-fits-item-kind-requires t)
     (list-fits-add-c t)
     (list-fits-loop-holds t)
     (list-fits-end-of-items-requires t)
@@ -506,6 +503,7 @@ pub +list-fits+statement-fits-spec : {M : Type 1} → statement M
     (statement-fits-returns-2 t)
     (statement-fits-holding-at-requires t)
     (statement-fits-holds-list-requires t)
+    (statement-fits-item-kind-requires t)
     (statement-fits-list-fits-requires t)
     (statement-fits-returns-3 t)
     (statement-fits-size-requires-2 t)

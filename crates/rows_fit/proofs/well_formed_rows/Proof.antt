@@ -17,7 +17,7 @@ use Rattle.rules.proofs.Every.{is-one}
 use Rattle.rules.proofs.Classes.{root-block}
 use Rattle.rules.proofs.Facts.{good-row}
 use Rattle.shape.specs.DetailedTo.{DetailedTo}
-use Rattle.row_checks.specs.Parts.{isList}
+use Rattle.row_checks.specs.Parts.{isList, itemKind}
 use Rattle.row_checks.specs.Right.{Right, RightBelow, Met}
 use Rattle.rows_fit.proofs.Deeper.{root-depth}
 use Rattle.row_checks.proofs.RightRows.{right-size, right-shape, never}
@@ -36,7 +36,7 @@ module _ (w p : List ℕ) (some : 0 < rowCount w) (g : badRow w p 0 ≡ false) (
   root-size : size w 0 ≡ rowCount w
   root-size = eqb-true (size w 0) (rowCount w) (body-parts .1)
 
-  root-list : rowCount w ≤ 2000 → Met w 0 1 × DetailedTo w 0 × (isList (holding (class w 0)) ≡ true)
+  root-list : rowCount w ≤ 2000 → Met w 0 1 × DetailedTo w 0 × (isList (holding (class w 0)) ≡ true) × (0 ≡ itemKind (holding (class w 0)))
   root-list most =
       let s = root-size in
       let m : Met w 0 1 = record {
@@ -48,7 +48,8 @@ module _ (w p : List ℕ) (some : 0 < rowCount w) (g : badRow w p 0 ≡ false) (
         shallow = omega (arith, root-depth w);
         deepest = omega arith;
       } in
-      (m, root-details w p g, ap isList (root-block w 0 (is-one (base w 0) block (body-parts .0)) refl))
+      let h = root-block w 0 (is-one (base w 0) block (body-parts .0)) refl in
+      (m, root-details w p g, ap isList h, ap itemKind (sym h))
 
   all-right : RightBelow w p 0 → (k : ℕ) → k < rowCount w → Right w p k
   all-right o k l =

@@ -1,6 +1,6 @@
--- Only the Block of a switch and that of a Select hold items of one kind; what the row holds is what `holding_at` says.
+-- Only the Block of a switch and that of a Select hold items of one kind.
 -- Assumes nothing.
-use mathlib.Core.Path.{_≡_, refl, sym, _∙_, ap}
+use mathlib.Core.Path.{_≡_, refl, sym, ap}
 use mathlib.Core.List.{[], _∷_}
 use borrow.Author.Needs.{needs}
 use denote.Enum.Declared.{tagOf}
@@ -22,9 +22,6 @@ no-kind Statements o = refl
 no-kind Cases o = absurd (miss (0 ∷ 1 ∷ 2 ∷ 3 ∷ 4 ∷ []) 5 tt o)
 no-kind Comms o = absurd (miss (0 ∷ 1 ∷ 2 ∷ 3 ∷ 4 ∷ []) 6 tt o)
 
-holding-at-requires : tie.Need-holding-at-requires
-holding-at-requires c κs = search needs
-
 enum-told : tie.Need-enum-told
 enum-told c = search needs
 
@@ -32,14 +29,14 @@ enum-told-2 : tie.Need-enum-told-2
 enum-told-2 c = search needs
 
 returns : tie.Need-returns
-returns c = ap itemKind (sym (ap held (c .enum-told .given .1)) ∙ c .before .before .holding-at .ensures)
+returns c = ap itemKind (sym (ap held (c .enum-told .given .1)))
 
 returns-2 : tie.Need-returns-2
-returns-2 c = ap itemKind (sym (ap held (c .enum-told2 .given .1)) ∙ c .before .before .holding-at .ensures)
+returns-2 c = ap itemKind (sym (ap held (c .enum-told2 .given .1)))
 
 returns-3 : tie.Need-returns-3
-returns-3 c = no-kind (c .before .holding-at .result) (c .match .keys3) ∙ ap itemKind (c .before .holding-at .ensures)
+returns-3 c = no-kind (c .before .args .holding) (c .match .keys3)
 
 pub item-kind-spec : {M : Type 1} → statement M
 item-kind-spec =
-    tie.close (tie.spec holding-at-requires enum-told enum-told-2 returns returns-2 returns-3)
+    tie.close (tie.spec enum-told enum-told-2 returns returns-2 returns-3)
