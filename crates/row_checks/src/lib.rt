@@ -6,13 +6,24 @@ use rows::RowNumber;
 use rows::details;
 use rows::kinds;
 ghost use mathlib.Core.Path.{_≡_};
-ghost use mathlib.Core.Bool.{true, not};
+ghost use mathlib.Core.Bool.{true, not, _&&_};
 ghost use mathlib.Core.List.{List};
 ghost use Prim.Native.Nat.{ℕ, _<_};
+ghost use lib.Dec.{eqb, leb};
 ghost use Rattle.rules.specs.Rows.{rowCount};
 ghost use Rattle.rules.specs.Class.{classOf, detailAllowed};
 ghost use Rattle.rules.specs.Names.{pairCount};
 ghost use Rattle.rules.specs.Refusals.{nameAllowed, badRow};
+
+// Whether there is a name of this number.
+fn is_name(pair_count: usize, name: usize) -> bool
+    ensures { λ r. ⌜ r ≡ (leb name «pair_count» && not (eqb name 0)) ⌝ }
+{
+    if pair_count < name {
+        return false;
+    }
+    name != 0
+}
 
 // Whether a row of this kind and detail may have this name: Labeled and goto must have one, other
 // Branches may, the rest have none.
@@ -20,17 +31,14 @@ fn name_allowed(kind: u32, detail: u32, pair_count: usize, name: usize) -> bool
     requires { ⌜ detailAllowed kind detail ≡ true ⌝ }
     ensures { λ r. ⌜ r ≡ nameAllowed (classOf kind detail) «pair_count» name ⌝ }
 {
-    if pair_count < name {
-        return false;
-    }
     if kind == kinds::LABELED {
-        return name != 0;
+        return is_name(pair_count, name);
     }
     if kind == kinds::BRANCH {
         if detail == details::GOTO {
-            return name != 0;
+            return is_name(pair_count, name);
         }
-        return true;
+        return name <= pair_count;
     }
     name == 0
 }
