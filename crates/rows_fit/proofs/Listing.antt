@@ -187,14 +187,14 @@ module _ {w p : List ℕ} {r s d c n : ℕ} (a : Item-at w p r s d c n) where
 
 -- such an item is right, with no rows below it
 past-plain : {w p : List ℕ} {r s d c : ℕ} → List-at w r s d → d < 100 → itemKind (holding (class w r)) ≡ 0 → Listed w p r (r + s) c → c < r + s
-    → PlainItem w c → Listed w p r (r + s) (c + 1)
+    → PlainItem w p c → Listed w p r (r + s) (c + 1)
 past-plain {w} {p} {r} {c = c} a q z o l b =
     let n = b .one-row in
     let m = o .walk .low in
     let h = o .walk .within in
     let f = leaf-below w p c n (class-needs w c ∙ b .leaf) in
     let g : Right w p c = record {
-      allowed = b .allowed p;
+      allowed = b .allowed;
       sized = right-size w c (omega arith) (omega arith);
       shaped = right-shape w c (λ e. absurd (omega arith)) (f .children);
       shallow = omega (arith, item-depth o, a .met .shallow);
@@ -204,7 +204,7 @@ past-plain {w} {p} {r} {c = c} a q z o l b =
 
 -- a run of plain items
 plain-run : {w p : List ℕ} {r s d : ℕ} (a : List-at w r s d) → d < 100 → itemKind (holding (class w r)) ≡ 0 → {c : ℕ} → Listed w p r (r + s) c → (n : ℕ)
-    → ((k : ℕ) → c ≤ k → k < c + n → PlainItem w k) → c + n ≤ r + s → Listed w p r (r + s) (c + n)
+    → ((k : ℕ) → c ≤ k → k < c + n → PlainItem w p k) → c + n ≤ r + s → Listed w p r (r + s) (c + n)
 plain-run {w} {p} {r} {s} a q z {c} o zero f l = let e : c + 0 ≡ c = omega arith in rw e o
 plain-run {w} {p} {r} {s} a q z {c} o (suc m) f l =
     let b = plain-run a q z o m (λ k u v. f k u (omega arith)) (omega arith) in
@@ -214,7 +214,7 @@ plain-run {w} {p} {r} {s} a q z {c} o (suc m) f l =
 
 -- c is what the walk came to, and y where the next item is: after such a run, or at c itself
 pub to-item : {w p : List ℕ} {r s d : ℕ} (a : List-at w r s d) → d < 100 → {n : ℕ} → n ≡ itemKind (holding (class w r)) → n ≡ 0 → {c x : ℕ}
-    → Listed w p r (r + s) c → PlainItems w c x (r + s) → {y : ℕ} → y ≡ x → (c ≤ y) × Listed w p r (r + s) y
+    → Listed w p r (r + s) c → PlainItems w p c x (r + s) → {y : ℕ} → y ≡ x → (c ≤ y) × Listed w p r (r + s) y
 to-item {w} {p} {r} {s} a q i z {c} {x} o b e =
     let f : c + (x - c) ≡ x = omega (arith, b .low) in
     let g = plain-run a q (sym i ∙ z) o (x - c) (λ k u v. b .plain k u (omega arith)) (omega (arith, b .high)) in

@@ -68,7 +68,7 @@ fn list_fits(rows: &[u32], pair_count: usize, row: RowNumber, depth: usize, item
     let mut c = row.0 + 1;
     while c < end {
         if items == 0 {
-            c = end_of_items(rows, c, end);
+            c = end_of_items(rows, pair_count, c, end);
         }
         if c < end {
             let item = RowNumber(c);

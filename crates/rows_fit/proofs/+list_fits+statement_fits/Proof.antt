@@ -168,7 +168,8 @@ past-run t c =
     let m = c .before .before .before .before in
     let o = c .before .before .loop .inv _ refl in
     ⊎-elim
-    (λ a. to-item (list-known t m) (omega (arith, m .if1 .left)) (list-fits-at-start-1 m .pre .1 .3) (a .0 .taken) o (a .1 .ensures) (a .2))
+    (λ a. to-item (list-known t m) (omega (arith, m .if1 .left)) (list-fits-at-start-1 m .pre .1 .3) (a .0 .taken) o
+    (a .1 .ensures (somePairs _) (so-many _)) (a .2))
     (λ a. at-item o (a .1))
     (c .if2 .came)
 
