@@ -23,8 +23,8 @@
 extern "C" {
 #endif
 
-/* 0.10.0: major * 1,000,000 + minor * 1,000 + patch. */
-#define ZESTHULL_VERSION 10000
+/* 0.10.1: major * 1,000,000 + minor * 1,000 + patch. */
+#define ZESTHULL_VERSION 10001
 
 enum zesthull_refusals {
     ZESTHULL_NONE = 0,

@@ -271,7 +271,7 @@ const MAJOR: u32 = 0;
 
 const MINOR: u32 = 10;
 
-const PATCH: u32 = 0;
+const PATCH: u32 = 1;
 
 // The version as one number: three digits each for minor and patch.
 #[no_mangle]

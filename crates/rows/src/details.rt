@@ -23,29 +23,29 @@ pub const DEFAULT: u32 = 1;
 
 pub const WITH_CONDITION: u32 = 1;
 
-// How many details each kind allows, from 0 on.
+// One byte for each kind: bit d is set exactly when detail d is allowed.
 const DETAILS: [u8; 21] = [
-    1, // Bad
-    2, // Decl: 1 for VAR
-    1, // Empty
-    1, // Labeled
-    2, // Expr: 1 for a panic
-    1, // Send
-    1, // IncDec
-    2, // Assign: 1 for :=
-    1, // Go
-    1, // Defer
-    1, // Return
-    4, // Branch: break, continue, goto, fallthrough
-    1, // Block
-    2, // If: 1 with else
-    2, // Case: 1 for default
-    1, // Switch
-    1, // TypeSwitch
-    2, // Comm: 1 for default
-    1, // Select
-    2, // For: 1 with a condition
-    1, // Range
+    0b0001, // Bad
+    0b0011, // Decl: 1 for VAR
+    0b0001, // Empty
+    0b0001, // Labeled
+    0b0011, // Expr: 1 for a panic
+    0b0001, // Send
+    0b0001, // IncDec
+    0b0011, // Assign: 1 for :=
+    0b0001, // Go
+    0b0001, // Defer
+    0b0001, // Return
+    0b1111, // Branch: break, continue, goto, fallthrough
+    0b0001, // Block
+    0b0011, // If: 1 with else
+    0b0011, // Case: 1 for default
+    0b0001, // Switch
+    0b0001, // TypeSwitch
+    0b0011, // Comm: 1 for default
+    0b0001, // Select
+    0b0011, // For: 1 with a condition
+    0b0001, // Range
 ];
 
 fn wide(entry: u8) -> u32
@@ -59,8 +59,12 @@ pub fn detail_allowed(kind: u32, detail: u32) -> bool
     ensures { λ r. ⌜ r ≡ detailAllowed kind detail ⌝ }
 {
     if 21 <= kind {
-        return false;
+        return false; // past the table
     }
     let k = kind as usize;
-    detail < wide(DETAILS[k])
+    let byte = wide(DETAILS[k]);
+    if 8 <= detail {
+        return false; // past the byte
+    }
+    (byte >> detail) % 2 == 1
 }

@@ -68,11 +68,14 @@ fn pairs() -> Vec<Words> {
 const POSITIONS_AND_NAMES: [[u32; 2]; 8] =
     [[0, 0], [0, 1], [1, 0], [1, 1], [1, 2], [1, 3], [1, u32::MAX], [u32::MAX, 0]];
 
+/// Details at the edges of the table, of a byte's bits, of a shift's width and of a word.
+const DETAILS: [u32; 13] = [0, 1, 2, 3, 4, 5, 7, 8, 31, 32, 33, 256, u32::MAX];
+
 /// Rows of every kind at the edges of detail, position and name.
 fn rows() -> Vec<[u32; 5]> {
     let mut all = vec![];
     for kind in (0..=22).chain([255, 256, u32::MAX - 1, u32::MAX]) {
-        for detail in [0, 1, 2, 3, 4, 5, u32::MAX] {
+        for detail in DETAILS {
             let row = |[position, name]: [u32; 2]| [kind, detail, position, name, 1];
             all.extend(POSITIONS_AND_NAMES.map(row));
         }
