@@ -10,7 +10,7 @@ use native.Mathlib.Omega.{arith}
 use borrow.Author.Tests.{not-true}
 use Rattle.rules.specs.Scan.{lowest}
 use Rattle.rules.specs.Rows.{rowCount, size, end, Child, here}
-use Rattle.rules.specs.Class.{defaultCase, caseBlock, select, oneOf, isSwitch, isCase, class}
+use Rattle.rules.specs.Class.{defaultCase, caseBlock, select, oneOf, isSwitch, isCase, isDefault, class}
 use Rattle.rules.specs.Scope.{isBlock}
 use Rattle.rules.specs.Labels.{isClass}
 use Rattle.rules.specs.Body.{Body}
@@ -19,7 +19,6 @@ use Rattle.rules.proofs.Every.{every, same, same-eq}
 use Rattle.rules.proofs.Nesting.{item-from}
 use Rattle.rules.proofs.Shape.{opens}
 use Rattle.rules.proofs.ClassRules.{class-rule, child-rule}
-use Rattle.rules.proofs.Terminating.{isDefault}
 use Rattle.breaks.specs.Leaves.{labelNumber, Closed, anyLeaves}
 use Rattle.returns.specs.Search.{isTerminating, isTerminatingList}
 use Rattle.breaks.proofs.Ranges.{closed-rest}

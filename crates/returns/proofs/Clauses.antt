@@ -10,7 +10,8 @@ use lib.Dec.{eqb}
 use borrow.Author.Tests.{not-true}
 use Rattle.rules.specs.Scan.{lowest}
 use Rattle.rules.specs.Rows.{rowCount, kind, detail, size, end, Item, here}
-use Rattle.rules.specs.Class.{Class, break, block, caseBlock, commBlock, select, oneOf, isBreakable, isCase, isComm, classOf, base, detailAllowed, class}
+use Rattle.rules.specs.Class.{Class, break, block, caseBlock, commBlock, select, oneOf, isBreakable, isCase, isComm, isDefault, classOf, base}
+use Rattle.rules.specs.Class.{detailAllowed, class}
 use Rattle.rules.specs.Scope.{isList}
 use Rattle.rules.specs.Labels.{isClass}
 use Rattle.rules.specs.Verdict.{anyDefault, hasDefault, hasBreak}
@@ -20,7 +21,7 @@ use Rattle.rules.proofs.Details.{of-allowed}
 use Rattle.rules.proofs.Shape.{opens}
 use Rattle.rules.proofs.ClassRules.{isClauseBlock, class-rule, child-rule, opens-holds}
 use Rattle.rules.proofs.RowNames.{base-class}
-use Rattle.rules.proofs.Terminating.{isDefault, any-default-more, any-default-none, has-default}
+use Rattle.rules.proofs.Terminating.{any-default-more, any-default-none, has-default}
 use Rattle.breaks.specs.Leaves.{labelNumber, Closed, anyLeaves}
 use Rattle.returns.specs.Search.{isTerminating, isTerminatingList}
 use Rattle.breaks.proofs.Ranges.{closed-below, closed-rest, closed-item}

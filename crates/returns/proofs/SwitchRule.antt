@@ -8,12 +8,11 @@ use native.Mathlib.Omega.{arith}
 use native.Mathlib.Numerals.{add-one}
 use borrow.Author.Tests.{ne-eqb}
 use Rattle.rules.specs.Rows.{rowCount, detail, size, Item, here}
-use Rattle.rules.specs.Class.{select, class}
+use Rattle.rules.specs.Class.{select, isDefault, class}
 use Rattle.rules.specs.Labels.{isClass}
 use Rattle.rules.specs.Body.{Body}
 use Rattle.rules.proofs.Shape.{opens}
 use Rattle.rules.proofs.Nesting.{item-next, item-from}
-use Rattle.rules.proofs.Terminating.{isDefault}
 use Rattle.breaks.specs.Leaves.{labelNumber, Closed, anyLeaves}
 use Rattle.returns.specs.Search.{isTerminating, isTerminatingList}
 use Rattle.breaks.proofs.Ranges.{closed-rest}

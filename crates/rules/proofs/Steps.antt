@@ -17,7 +17,7 @@ use Rattle.rules.specs.Body.{Sized, OneChild, Body}
 use Rattle.rules.specs.Refusals.{holding, body}
 use Rattle.rules.specs.Class.{Class, plain, declaration, empty, labeled, stop, break, continue, goto, fallthrough, block, caseBlock, commBlock, if}
 use Rattle.rules.specs.Class.{ifElse, case, defaultCase, comm, defaultComm, switch, typeSwitch, select, for, forCond, code, oneOf, isSwitch, isLoop}
-use Rattle.rules.specs.Class.{isCase, detailAllowed, classOf, base, following, class}
+use Rattle.rules.specs.Class.{isCase, isDefault, detailAllowed, classOf, base, following, class}
 use Rattle.rules.specs.Scope.{isList, around, innermost, listOf, inListOf, nextCase}
 use Rattle.rules.specs.Labels.{word, labels, gotoLabel, binding}
 use Rattle.rules.specs.Verdict.{labelOn, refersTo, anyDefault, hasDefault}
@@ -66,36 +66,33 @@ module _ (w : List ℕ) where
 
 -- ---- a default, as one of the clauses
 module _ (w : List ℕ) where
-  abbrev pub isDefault : ℕ → Bool
-  isDefault s = oneOf (defaultCase ∷ defaultComm ∷ []) (class w s)
-
-  default-found : (f e c : ℕ) → anyDefault w f e c ≡ true → (s : ℕ) × Item w e c s × (isDefault s ≡ true)
+  default-found : (f e c : ℕ) → anyDefault w f e c ≡ true → (s : ℕ) × Item w e c s × (isDefault (class w s) ≡ true)
   unfolding anyDefault
   default-found zero e c t = absurd (clash (cc))
   default-found (suc f) e c t = case-of (ltb c e)
       (λ l.
-      let u : isDefault c || anyDefault w f e (end w c) ≡ true = rw (l, anyDefault) at t in
-      elim (or-true (isDefault c) (anyDefault w f e (end w c)) u) [
+      let u : isDefault (class w c) || anyDefault w f e (end w c) ≡ true = rw (l, anyDefault) at t in
+      elim (or-true (isDefault (class w c)) (anyDefault w f e (end w c)) u) [
         | inl d ↦ (c, here (ltb-true c e l), d)
         | inr d ↦ let (s, i, x) = default-found f e (end w c) d in (s, later (ltb-true c e l) i, x)
       ])
       (λ l. let z : false ≡ true = rw (l, anyDefault) at t in absurd (clash (cc)))
 
-  no-default : Sized w → {e c s : ℕ} → (f : ℕ) → e ≤ c + f → e ≤ rowCount w → anyDefault w f e c ≡ false → Item w e c s → isDefault s ≡ false
+  no-default : Sized w → {e c s : ℕ} → (f : ℕ) → e ≤ c + f → e ≤ rowCount w → anyDefault w f e c ≡ false → Item w e c s → isDefault (class w s) ≡ false
   unfolding anyDefault
   no-default sized zero h m t (here l) = absurd (omega arith)
   no-default sized zero h m t (later l i) = absurd (omega arith)
   no-default sized {e} {c} (suc f) h m t (here l) =
-      or-false (isDefault c) (anyDefault w f e (end w c)) (rw (lt-ltb c e l, anyDefault) at t) .0
+      or-false (isDefault (class w c)) (anyDefault w f e (end w c)) (rw (lt-ltb c e l, anyDefault) at t) .0
   no-default sized {e} {c} (suc f) h m t (later l i) =
       no-default sized f (omega (arith, sized .some-rows c (omega arith))) m
-      (or-false (isDefault c) (anyDefault w f e (end w c)) (rw (lt-ltb c e l, anyDefault) at t) .1) i
+      (or-false (isDefault (class w c)) (anyDefault w f e (end w c)) (rw (lt-ltb c e l, anyDefault) at t) .1) i
 
-  pub with-default : Sized w → (r : ℕ) → r < rowCount w → OneChild w r → hasDefault w r ≡ true → (s : ℕ) × Child w (suc r) s × (isDefault s ≡ true)
+  pub with-default : Sized w → (r : ℕ) → r < rowCount w → OneChild w r → hasDefault w r ≡ true → (s : ℕ) × Child w (suc r) s × (isDefault (class w s) ≡ true)
   unfolding hasDefault
   with-default sized r row (l, e) t = rw e (default-found (size w r) (end w r) (suc (suc r)) t)
 
-  pub without-default : Sized w → (r : ℕ) → r < rowCount w → OneChild w r → hasDefault w r ≡ false → (s : ℕ) → Child w (suc r) s → isDefault s ≡ false
+  pub without-default : Sized w → (r : ℕ) → r < rowCount w → OneChild w r → hasDefault w r ≡ false → (s : ℕ) → Child w (suc r) s → isDefault (class w s) ≡ false
   unfolding hasDefault
   without-default sized r row (l, e) t s i = no-default sized (size w r) (omega arith) (sized .within r row) t (rw e at i)
 

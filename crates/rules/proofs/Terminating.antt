@@ -10,9 +10,9 @@ use lib.Dec.{ltb, eqb}
 use borrow.Author.Tests.{ltb-true, eqb-true, lt-ltb, le-ltb, eq-eqb, ne-eqb}
 use Rattle.rules.specs.Scan.{lowest}
 use Rattle.rules.specs.Rows.{name, size, end}
-use Rattle.rules.specs.Class.{Class, plain, declaration, empty, labeled, stop, break, continue, goto, fallthrough, block, caseBlock, commBlock, if}
-use Rattle.rules.specs.Class.{ifElse, case, defaultCase, comm, defaultComm, switch, typeSwitch, select, for, forCond, oneOf, isSwitch, isBreakable}
-use Rattle.rules.specs.Class.{class}
+use Rattle.rules.specs.Class.{plain, declaration, empty, labeled, stop, break, continue, goto, fallthrough, block, caseBlock, commBlock, if}
+use Rattle.rules.specs.Class.{ifElse, case, defaultCase, comm, defaultComm, switch, typeSwitch, select, for, forCond, isSwitch, isBreakable}
+use Rattle.rules.specs.Class.{isDefault, class}
 use Rattle.rules.specs.Scope.{isList, around, innermost, onlyEmpty}
 use Rattle.rules.specs.Labels.{is, isClass, sameNames}
 use Rattle.rules.specs.Verdict.{anyDefault, hasDefault, labelOn, refersTo, hasBreak, terminating, terminatingList, terminatingClauses, verdict}
@@ -21,10 +21,6 @@ use Rattle.rules.proofs.Test.{case-found, clash, and-true}
 use Rattle.rules.proofs.Scan.{lowest-none, lowest-found}
 use Rattle.rules.proofs.ClassRules.{isClauseBlock, isNever, isAlways, by-one}
 use Rattle.rules.proofs.Around.{around-true, true-around, Innermost, innermost-found}
-
--- a default clause
-abbrev pub isDefault : Class → Bool
-isDefault = oneOf (defaultCase ∷ defaultComm ∷ [])
 
 -- ---- defaults
 module _ (w : List ℕ) where

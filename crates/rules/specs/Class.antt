@@ -106,6 +106,10 @@ isCase = oneOf (case ∷ defaultCase ∷ [])
 abbrev pub isComm : Class → Bool
 isComm = oneOf (comm ∷ defaultComm ∷ [])
 
+-- a default clause, of either switch or of Select
+abbrev pub isDefault : Class → Bool
+isDefault = oneOf (defaultCase ∷ defaultComm ∷ [])
+
 -- what may be an item of a list
 abbrev pub isStatement : Class → Bool
 isStatement c = not ((isCase c || isComm c) || oneOf (caseBlock ∷ commBlock ∷ []) c)

@@ -1,13 +1,13 @@
 -- Document 01, "Verdict call": whether a body is terminating. The statement rule and the list rule call each other, downward.
 -- Assumes nothing.
 use mathlib.Core.Bool.{Bool, true, false, _&&_, _||_, not}
-use mathlib.Core.List.{List, [], _∷_}
+use mathlib.Core.List.{List}
 use Prim.Native.Nat.{ℕ, zero, suc, _+_}
 use lib.Dec.{ltb, eqb}
 use Rattle.rules.specs.Scan.{lowest}
 use Rattle.rules.specs.Rows.{name, size, end}
 use Rattle.rules.specs.Class.{plain, declaration, empty, labeled, stop, break, continue, goto, fallthrough, block, caseBlock, commBlock, if, ifElse}
-use Rattle.rules.specs.Class.{case, defaultCase, comm, defaultComm, switch, typeSwitch, select, for, forCond, oneOf, isBreakable, class}
+use Rattle.rules.specs.Class.{case, defaultCase, comm, defaultComm, switch, typeSwitch, select, for, forCond, isBreakable, isDefault, class}
 use Rattle.rules.specs.Scope.{around, innermost, onlyEmpty}
 use Rattle.rules.specs.Labels.{isSome, is, isClass, sameNames}
 
@@ -15,7 +15,7 @@ module _ (w : List ℕ) where
   -- some item from c on, before e, is a default clause; the first argument bounds the steps
   unfoldable pub anyDefault : ℕ → ℕ → ℕ → Bool
   anyDefault zero e c = false
-  anyDefault (suc f) e c = elim (ltb c e) [ true ↦ oneOf (defaultCase ∷ defaultComm ∷ []) (class w c) || anyDefault f e (end w c) | false ↦ false ]
+  anyDefault (suc f) e c = elim (ltb c e) [ true ↦ isDefault (class w c) || anyDefault f e (end w c) | false ↦ false ]
 
   -- the switch r has a default
   unfoldable pub hasDefault : ℕ → Bool

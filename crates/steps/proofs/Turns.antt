@@ -12,11 +12,11 @@ use lib.ListN.{length, getD, set}
 use lib.Seq.{getD-set-same, getD-set-other}
 use borrow.Author.Tests.{ne-eqb}
 use Rattle.rules.specs.Rows.{size, end}
-use Rattle.rules.specs.Class.{Class, code, class}
+use Rattle.rules.specs.Class.{Class, code, isDefault, class}
 use Rattle.rules.specs.Verdict.{anyDefault, hasDefault}
 use Rattle.rules.specs.Runner.{itemAt, itemCount, clauseCount}
 use Rattle.rules.proofs.Going.{item-at-first, item-count-more, item-count-none, clause-count}
-use Rattle.rules.proofs.Terminating.{isDefault, any-default-more, any-default-none, has-default}
+use Rattle.rules.proofs.Terminating.{any-default-more, any-default-none, has-default}
 use Rattle.classes.proofs.Codes.{code-is}
 use Rattle.steps.specs.Written.{ClausesWritten}
 use Rattle.steps.proofs.Choices.{item-at-next}
