@@ -1,4 +1,4 @@
-// A script with a syntax error: the other functions are still marked.
+// A script with a syntax error and a switch with two defaults: the other functions are still marked.
 package paper
 
 func first(n int) int {
@@ -13,4 +13,15 @@ func second(n int) int {
 
 func third() {
 	break
+}
+
+func fourth(n int) string {
+	switch n {
+	default:
+		return "many"
+	case 1:
+		return "one"
+	default:
+		return "none"
+	}
 }

@@ -221,6 +221,7 @@ static void test_numbers(void) {
     check(__LINE__, ZESTHULL_ROW == 4 && ZESTHULL_SHAPE == 5, "refusals 4 and 5");
     check(__LINE__, ZESTHULL_DEPTH == 6 && ZESTHULL_TOO_SHORT == 7, "refusals 6 and 7");
     check(__LINE__, ZESTHULL_FAULTY == 8 && ZESTHULL_CHOICE == 9, "refusals 8 and 9");
+    check(__LINE__, ZESTHULL_DEFAULTS == 10, "refusal 10");
 }
 
 /* Bodies of document 01's table; the position of row r is 10 * (r + 1). */
@@ -355,6 +356,57 @@ static void test_shape(void) {
     word_refused(__LINE__, 20, 14, ZESTHULL_SHAPE, 3);
 }
 
+/* One switch, type switch or select, whose clauses, the rows from 3 on, have these details. */
+static struct body of_clauses(uint32_t kind, const uint32_t *details, size_t count) {
+    put_row(0, 12, 3 + count);
+    put_row(1, kind, 2 + count);
+    put_row(2, 12, 1 + count);
+    for (size_t i = 0; i < count; i++) {
+        put_row(3 + i, kind == 18 ? 17 : 14, 1);
+        many_rows[5 * (3 + i) + 1] = details[i];
+    }
+    return of_many_rows(3 + count);
+}
+
+/* switch { default: switch { default: default: } default: } */
+static const uint32_t nest_of_defaults[45] = {
+    12, 0, 10, 0, 9, /* 0 { */
+    15, 0, 20, 0, 8, /* 1   switch */
+    12, 0, 30, 0, 7, /* 2   { */
+    14, 1, 40, 0, 5, /* 3   default: */
+    15, 0, 50, 0, 4, /* 4     switch */
+    12, 0, 60, 0, 3, /* 5     { */
+    14, 1, 70, 0, 1, /* 6     default: */
+    14, 1, 80, 0, 1, /* 7     default: */
+    14, 1, 90, 0, 1, /* 8   default: */
+};
+
+/* The nest with other details for its last two defaults, the inner one's and the outer one's. */
+static struct body nest_with(uint32_t inner, uint32_t outer) {
+    for (size_t i = 0; i < 45; i++) many_rows[i] = nest_of_defaults[i];
+    many_rows[5 * 7 + 1] = inner;
+    many_rows[5 * 8 + 1] = outer;
+    return of_many_rows(9);
+}
+
+/* Two defaults in one statement; one inside a clause of another doesn't count for the outer one. */
+static void test_defaults(void) {
+    static const uint32_t kinds[3] = {15, 16, 18};
+    for (size_t i = 0; i < COUNT(kinds); i++) {
+        uint32_t kind = kinds[i];
+        try_refusal(__LINE__, of_clauses(kind, WORDS(1, 0, 0)), ZESTHULL_NONE, 0);
+        try_refusal(__LINE__, of_clauses(kind, WORDS(0, 0, 1)), ZESTHULL_NONE, 0);
+        refused(__LINE__, of_clauses(kind, WORDS(1, 1)), ZESTHULL_DEFAULTS, 4);
+        refused(__LINE__, of_clauses(kind, WORDS(1, 0, 0, 1)), ZESTHULL_DEFAULTS, 6);
+        refused(__LINE__, of_clauses(kind, WORDS(0, 1, 1, 0)), ZESTHULL_DEFAULTS, 5);
+        refused(__LINE__, of_clauses(kind, WORDS(0, 1, 0, 1, 1)), ZESTHULL_DEFAULTS, 6);
+    }
+    try_refusal(__LINE__, nest_with(0, 0), ZESTHULL_NONE, 0);
+    refused(__LINE__, nest_with(0, 1), ZESTHULL_DEFAULTS, 8);
+    refused(__LINE__, nest_with(1, 0), ZESTHULL_DEFAULTS, 7);
+    refused(__LINE__, nest_with(1, 1), ZESTHULL_DEFAULTS, 7);
+}
+
 static void test_depth(void) {
     try_refusal(__LINE__, nested(100), ZESTHULL_NONE, 0);
     refused(__LINE__, nested(101), ZESTHULL_DEPTH, 100);
@@ -369,7 +421,17 @@ static void test_too_short(void) {
     writers_refused(__LINE__, example(), 0, 0, ZESTHULL_TOO_SHORT, 0);
 }
 
-/* Two faults: the one that document 01 tests first. */
+/* Blocks inside each other around a switch with two defaults, the rows 100 and 101, both 101 deep. */
+static struct body deep_defaults(void) {
+    struct body body = nested(102);
+    put_row(98, 15, 4);
+    put_row(100, 14, 1);
+    put_row(101, 14, 1);
+    many_rows[5 * 100 + 1] = many_rows[5 * 101 + 1] = 1;
+    return body;
+}
+
+/* Two faults or more: the one that documents 01 and 02 test first. */
 static void test_order(void) {
     struct body body = {example_rows, 24, WORDS(0), BYTES("")};
     refused(__LINE__, body, ZESTHULL_ROW_WORDS, 0);
@@ -381,6 +443,15 @@ static void test_order(void) {
     many_rows[5 * 100 + 2] = 1;
     many_rows[5 * 100] = 19;
     refused(__LINE__, body, ZESTHULL_SHAPE, 100);
+    body = deep_defaults();
+    refused(__LINE__, body, ZESTHULL_DEFAULTS, 101);
+    many_rows[5 * 101 + 1] = 0;
+    refused(__LINE__, body, ZESTHULL_DEPTH, 100);
+    body = deep_defaults();
+    many_rows[5 * 101 + 4] = 2;
+    refused(__LINE__, body, ZESTHULL_SHAPE, 101);
+    many_rows[5 * 101 + 2] = 0;
+    refused(__LINE__, body, ZESTHULL_ROW, 101);
 }
 
 /* Counts of 0 for each argument; the pointers stay good. */
@@ -585,6 +656,7 @@ int main(void) {
     test_pairs();
     test_rows();
     test_shape();
+    test_defaults();
     test_depth();
     test_too_short();
     test_order();

@@ -23,9 +23,10 @@
 extern "C" {
 #endif
 
-/* 0.10.1: major * 1,000,000 + minor * 1,000 + patch. */
-#define ZESTHULL_VERSION 10001
+/* 0.11.0: major * 1,000,000 + minor * 1,000 + patch. */
+#define ZESTHULL_VERSION 11000
 
+/* In the order in which they are tested: 10 comes after 5 and before 6. */
 enum zesthull_refusals {
     ZESTHULL_NONE = 0,
     ZESTHULL_ROW_WORDS = 1,  /* row words empty, not a multiple of 5, or over 2,000 rows */
@@ -33,13 +34,15 @@ enum zesthull_refusals {
     ZESTHULL_PAIR = 3,       /* a pair, by its index from 0 */
     ZESTHULL_ROW = 4,        /* a row's kind, detail, position or name, by the row */
     ZESTHULL_SHAPE = 5,      /* a row's size, parent or children, by the row */
+    ZESTHULL_DEFAULTS = 10,  /* two defaults in one switch or select, by the row of the second */
     ZESTHULL_DEPTH = 6,      /* a row over 100 deep, by the row */
     ZESTHULL_TOO_SHORT = 7,  /* sheet under 8 words a row, or bindings under 1 word a row */
     ZESTHULL_FAULTY = 8,     /* sheet not empty, or a row badly placed */
     ZESTHULL_CHOICE = 9      /* a choice out of range when it is met, by its index from 0 */
 };
 
-/* Whether the body is well-formed. The value is 0 if it is. */
+/* Whether the body is well-formed: none of the refusals 1 to 6 and 10 applies. The value is 0 if it
+   is. */
 uint32_t zesthull_refusal(const uint32_t *rows, size_t row_words,
                           const uint32_t *pairs, size_t pair_words,
                           const uint8_t *bytes, size_t byte_count, size_t *value);

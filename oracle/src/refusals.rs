@@ -1,4 +1,5 @@
-//! The refusals 1 to 6 of document 01, read plainly from its table.
+//! The refusals 1 to 6 of document 01, read plainly from its table, and 10 of
+//! document 02 (U4), which is tested after 5 and before 6.
 
 use crate::{branch, kind, Body};
 
@@ -26,7 +27,9 @@ pub fn refusal(rows: &[u32], pairs: &[u32], bytes: &[u8]) -> Option<(u32, u32)> 
         .or_else(|| bad_size(&rows).map(found(5)))
         .or_else(|| match tree(&rows) {
             Err(row) => Some((5, row as u32)),
-            Ok(parents) => too_deep(&parents).map(found(6)),
+            Ok(parents) => second_default(&rows, &parents)
+                .map(found(10))
+                .or_else(|| too_deep(&parents).map(found(6))),
         })
 }
 
@@ -125,6 +128,15 @@ fn allowed([kind, detail, ..]: [u32; 5], parent: Option<u32>, children: &[u32]) 
         kind::CASE | kind::COMM => items(),
         _ => children.is_empty(),
     }
+}
+
+/// Cause 10: the first default clause that has another before it among the
+/// children of its Block.
+fn second_default(rows: &[[u32; 5]], parents: &[Option<usize>]) -> Option<usize> {
+    let default = |row: usize| matches!(rows[row], [kind::CASE | kind::COMM, 1, ..]);
+    let beside = |row: usize, other: usize| parents[row] == parents[other];
+    let second = |row: usize| (0..row).any(|before| default(before) && beside(before, row));
+    (0..rows.len()).find(|&row| default(row) && second(row))
 }
 
 /// Cause 6: the first row that is too deep, row 0 being 1 deep.

@@ -71,16 +71,52 @@ fn bodies_at_the_limits() {
 
 #[test]
 fn damaged_bodies_have_every_refusal() {
-    let mut counts = [0; 7];
+    let mut counts = [0; 11];
     let mut rng = Rng::new(4);
-    for _ in 0..30_000 {
+    for round in 0..30_000 {
         let shape = Shape::any(&mut rng, 40);
-        let body = random(&mut rng, shape);
+        let mut body = random(&mut rng, shape);
+        if round % 10 == 0 {
+            body = two_defaults(&mut rng, &body);
+        }
         let (rows, pairs, bytes) = damage(&mut rng, &body);
         counts[refusal(&rows, &pairs, &bytes).map_or(0, |(cause, _)| cause as usize)] += 1;
     }
     println!("not refused, then of each cause: {counts:?}");
-    assert!(counts.iter().all(|&count| count > 0));
+    assert!([0, 1, 2, 3, 4, 5, 6, 10].iter().all(|&cause| counts[cause] > 0));
+    assert_eq!(counts[7..10], [0; 3]);
+}
+
+#[test]
+fn two_defaults_are_refused() {
+    let (mut rng, mut own) = (Rng::new(6), 0);
+    for _ in 0..10_000 {
+        let shape = Shape::any(&mut rng, 60);
+        let body = random(&mut rng, shape);
+        let spoilt = two_defaults(&mut rng, &body);
+        let refusal = refusal_of(&spoilt);
+        assert!(matches!(refusal, Some((10, _))), "{spoilt:?} {refusal:?}");
+        own += (spoilt.rows.len() == body.rows.len()) as usize;
+    }
+    println!("in a switch or Select of the body's own: {own} of 10,000");
+    assert!(own > 1_000 && own < 9_000);
+}
+
+#[test]
+fn every_way_to_have_defaults() {
+    let (mut well_formed, mut refused) = (0, 0);
+    for body in defaults() {
+        match refusal_of(&body) {
+            None => well_formed += 1,
+            Some((cause, _)) => {
+                assert_eq!(cause, 10, "{body:?}");
+                refused += 1;
+            }
+        }
+    }
+    // Of 0 to 4 clauses 1, 2, 3, 4 and 5 ways have no second default, of two
+    // and two inside 3 * 3; each for 3 statements, or 3 inside 3.
+    assert_eq!((well_formed, refused), (3 * 15 + 9 * 9, 3 * 16 + 9 * 7));
 }
 
 #[test]
@@ -98,4 +134,17 @@ fn smallest_keeps_the_failure_only() {
     // goto, declaration, label and its statement, in row 0.
     assert_eq!(body.rows.len(), 5, "{body:?}");
     assert_eq!(body.rows[4][0], kind::EMPTY);
+}
+
+#[test]
+fn smallest_tree_keeps_two_defaults() {
+    let mut rng = Rng::new(7);
+    let fails = |body: &Body| matches!(refusal_of(body), Some((10, _)));
+    for _ in 0..20 {
+        let shape = Shape::any(&mut rng, 200);
+        let body = random(&mut rng, shape);
+        let body = smallest_tree(two_defaults(&mut rng, &body), &fails);
+        // Row 0, a switch or Select, its Block, two clauses.
+        assert_eq!(body.rows.len(), 5, "{body:?}");
+    }
 }

@@ -30,7 +30,9 @@ pub struct Body<'a> {
     pub bytes: &'a [u8],
 }
 
-/// Why there is no answer: the number and index of documents 01 and 02.
+/// Why there is no answer: the number and index of documents 01 and 02. The numbers 1 to 6 and 10, two
+/// defaults in one switch or select, are those of bodies that aren't well-formed; 10 is tested after 5
+/// and before 6.
 #[derive(Clone, Copy, Debug, PartialEq, Eq)]
 pub struct Refusal {
     pub number: u32,
@@ -46,6 +48,7 @@ impl fmt::Display for Refusal {
             3 => write!(f, "pair {index} is empty, starts before the previous end or ends past the bytes"),
             4 => write!(f, "row {index} has a kind, detail, position or name that isn't allowed"),
             5 => write!(f, "row {index} breaks the shape of its kind"),
+            10 => write!(f, "row {index} is a second default in its switch or select"),
             6 => write!(f, "row {index} is over 100 deep"),
             7 => write!(f, "sheet shorter than 8 words a row, or bindings shorter than 1 word a row"),
             8 => write!(f, "the sheet isn't empty, or a row is badly placed"),
@@ -87,7 +90,15 @@ pub struct Walk {
     pub used: usize,
 }
 
-/// Whether the body is well-formed.
+/// Whether the body is well-formed: none of the refusals 1 to 6 and 10 applies.
+///
+/// ```
+/// // {switch {default: default:}}
+/// let rows =
+///     [[12, 0, 1, 0, 5], [15, 0, 2, 0, 4], [12, 0, 3, 0, 3], [14, 1, 4, 0, 1], [14, 1, 5, 0, 1]];
+/// let body = zesthull::Body { rows: rows.as_flattened(), pairs: &[], bytes: &[] };
+/// assert_eq!(zesthull::refusal(body), Err(zesthull::Refusal { number: 10, index: 4 }));
+/// ```
 pub fn refusal(body: Body) -> Result<(), Refusal> {
     told(|value| calls::refusal(body, value)).map(|_| ())
 }

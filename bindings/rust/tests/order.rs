@@ -6,28 +6,36 @@ mod common;
 use common::*;
 use zesthull::{Place, Refusal, Walk};
 
-const ROWS: usize = 110;
-/// The number and index of each refusal that `faulty` brings about.
-const REFUSALS: [(u32, usize); 9] =
-    [(1, 0), (2, 0), (3, 1), (4, 107), (5, 105), (6, 100), (7, 0), (8, 0), (9, 0)];
+const ROWS: usize = 114;
+/// The number and index of each refusal that `faulty` brings about, in the order of the tests.
+const REFUSALS: [(u32, usize); 10] =
+    [(1, 0), (2, 0), (3, 1), (4, 111), (5, 109), (10, 108), (6, 100), (7, 0), (8, 0), (9, 0)];
+
+/// Whether a refusal is in a set, which has a bit for each of `REFUSALS`.
+fn is_in(set: u32, number: u32) -> bool {
+    REFUSALS.iter().position(|refusal| refusal.0 == number).is_some_and(|at| set >> at & 1 == 1)
+}
 
 /// A body with the faults whose numbers are asked for, each where the others leave it. Row 103 and
-/// those after it are items of row 0, the first an If, where a walk meets its first choice.
+/// those after it are items of row 0, the first an If, where a walk meets its first choice, around a
+/// switch.
 fn faulty(has: impl Fn(u32) -> bool) -> Words {
     let mut rows = flat(ROWS);
     let chain = if has(6) { 103 } else { 100 };
     rows[..chain].copy_from_slice(&nested(chain));
     rows[0][4] = ROWS as u32;
-    rows[103] = [IF, 0, 1, 0, 2];
-    rows[104][0] = BLOCK;
+    let if_switch =
+        [[IF, 0, 1, 0, 6], [BLOCK, 0, 1, 0, 5], [15, 0, 1, 0, 4], [BLOCK, 0, 1, 0, 3], [14, 1, 1, 0, 1]];
+    rows[103..108].copy_from_slice(&if_switch);
+    rows[108] = [14, has(10) as u32, 1, 0, 1];
     if has(4) {
-        rows[107][2] = 0;
+        rows[111][2] = 0;
     }
     if has(5) {
-        rows[105][4] = 0;
+        rows[109][4] = 0;
     }
     if has(8) {
-        rows[109][0] = BRANCH;
+        rows[113][0] = BRANCH;
     }
     let mut words = Words::new(&rows, &["M", "L", "N"]);
     if has(1) {
@@ -42,15 +50,14 @@ fn faulty(has: impl Fn(u32) -> bool) -> Words {
     words
 }
 
-/// Each set of faults gets the one with the lowest number.
+/// Each set of faults gets the one that is tested first.
 #[test]
 fn all_sets_of_faults() {
-    for set in 1..1 << 7 {
-        let has = |number: u32| set >> (number - 1) & 1 == 1;
-        let first = (1..=7).find(|&number| has(number)).unwrap();
-        let (number, index) = REFUSALS[first as usize - 1];
-        let (words, what) = (faulty(has), format!("faults {set:07b}"));
-        if first < 7 {
+    for set in 1..1 << 8 {
+        let has = |number: u32| is_in(set, number);
+        let (number, index) = REFUSALS.into_iter().find(|&(number, _)| has(number)).unwrap();
+        let (words, what) = (faulty(has), format!("faults {set:08b}"));
+        if number != 7 {
             expect_refusal(&what, &words, number, index);
         }
         let lent = if has(7) { (0, 0) } else { (8 * ROWS, ROWS) };
@@ -61,8 +68,8 @@ fn all_sets_of_faults() {
 /// The same for the walk, which has no 7: after the faults of the body 8, then 9.
 #[test]
 fn all_sets_of_faults_of_a_walk() {
-    for set in 0..1 << 9 {
-        let has = |number: u32| set >> (number - 1) & 1 == 1;
+    for set in 0..1 << 10 {
+        let has = |number: u32| is_in(set, number);
         let first = REFUSALS.into_iter().find(|&(number, _)| number != 7 && has(number));
         let due = match first {
             Some((number, index)) => Err(Refusal { number, index }),
@@ -70,7 +77,7 @@ fn all_sets_of_faults_of_a_walk() {
         };
         let choice = if has(9) { 9 } else { 0 };
         let walk = zesthull::walk(faulty(has).body(), &[choice], 1_000);
-        assert_eq!(walk, due, "faults {set:09b}");
+        assert_eq!(walk, due, "faults {set:010b}");
     }
 }
 
@@ -107,7 +114,8 @@ fn pairs_before_rows() {
     expect_refusal("a row's name", &words, 4, 1);
 }
 
-/// Each cause is tried over all rows before the next: the later row may be told.
+/// Each cause is tried over all rows before the next: the later row may be told. That 10 comes between
+/// 5 and 6 stands in tests/defaults.rs, too.
 #[test]
 fn rows_before_shape_before_depth() {
     let mut rows = nested(103);

@@ -1,4 +1,5 @@
-//! Refusals 1 to 7, each with its index, through every call that has it.
+//! Refusals 1 to 4, 6 and 7, each with its index, through every call that has it. Refusal 5 stands in
+//! shapes.rs, 10 in defaults.rs.
 
 mod common;
 

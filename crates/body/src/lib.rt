@@ -1,4 +1,5 @@
-// Refusals 1 to 6 of the lent records, and with them whether a body is well-formed.
+// Refusals 1 to 6 and 10 of the lent records, and with them whether a body is well-formed.
+pub mod defaults;
 pub mod depth;
 
 use names::Found;
@@ -67,7 +68,8 @@ fn first_bad_size(rows: &[u32]) -> Found
 }
 
 // The first cause that applies to the body, or WellFormed. Each cause is tried over all rows before
-// the next; but most bodies are well-formed, so one walk first tries whether none of 4 to 6 applies.
+// the next; but most bodies are well-formed, so one walk first tries whether none of 4, 5, 10 and 6
+// applies.
 pub fn refusal_of(rows: &[u32], pairs: &[u32], bytes: &[u8]) -> Checked
     ensures { λ r. ⌜ given r ≡ refusal (now (rows .entry)) (now (pairs .entry)) (now (bytes .entry)) ⌝ }
 {
@@ -91,6 +93,9 @@ pub fn refusal_of(rows: &[u32], pairs: &[u32], bytes: &[u8]) -> Checked
     }
     if let Found::At(r) = shape::first_bad_shape(rows) {
         return Checked::Refused(Refusal::Shape(RowNumber(r)));
+    }
+    if let Found::At(r) = defaults::first_second_default(rows) {
+        return Checked::Refused(Refusal::SecondDefault(RowNumber(r)));
     }
     if let Found::At(r) = depth::first_too_deep(rows) {
         return Checked::Refused(Refusal::Depth(RowNumber(r)));

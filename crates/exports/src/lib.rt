@@ -269,9 +269,9 @@ pub extern "C" fn zesthull_name(
 // The version of the calls: this is its one place. CHANGELOG.md says what each version changed.
 const MAJOR: u32 = 0;
 
-const MINOR: u32 = 10;
+const MINOR: u32 = 11;
 
-const PATCH: u32 = 1;
+const PATCH: u32 = 0;
 
 // The version as one number: three digits each for minor and patch.
 #[no_mangle]

@@ -15,6 +15,8 @@ pub enum Refusal {
     Row(RowNumber),
     // 5: the lowest row that breaks the rule for its own kind, parent or size
     Shape(RowNumber),
+    // 10: the first clause that is a second default of its switch or Select
+    SecondDefault(RowNumber),
     // 6: the first row over 100 deep
     Depth(RowNumber),
     // 7: a lent buffer is too short: sheet under 8 words a row, or bindings under 1 word a row
@@ -35,6 +37,7 @@ pub fn number_of(refusal: Refusal) -> u32
         Refusal::Pair(_) => 3,
         Refusal::Row(_) => 4,
         Refusal::Shape(_) => 5,
+        Refusal::SecondDefault(_) => 10,
         Refusal::Depth(_) => 6,
         Refusal::TooShort => 7,
         Refusal::Faulty => 8,
@@ -52,6 +55,7 @@ pub fn index_of(refusal: Refusal) -> usize
         Refusal::Pair(i) => i,
         Refusal::Row(r) => r.0,
         Refusal::Shape(r) => r.0,
+        Refusal::SecondDefault(r) => r.0,
         Refusal::Depth(r) => r.0,
         Refusal::TooShort => 0,
         Refusal::Faulty => 0,

@@ -13,6 +13,7 @@ use Rattle.rules.specs.Class.{Class, base, following, class}
 use Rattle.rules.specs.Refusals.{holding, atLeast, childrenFit, isBody, badSize, badShape}
 use Rattle.rules.proofs.Test.{clash}
 use Rattle.rules.proofs.Every.{every, of-classes}
+use Rattle.rules.proofs.Nesting.{item-from, item-before}
 use Rattle.rules.proofs.Children.{fits-ended, shape-fits}
 use Rattle.row_checks.specs.Right.{RightBelow}
 
@@ -53,4 +54,9 @@ leaf-fits w r s z = rw s (fits-ended w (holding (class w r)) (r + 1) 0 (suc r) 0
 
 pub leaf-below : (w p : List ℕ) (r : ℕ) → size w r ≡ 1 → atLeast (holding (class w r)) ≡ 0 → RightBelow w p r
 leaf-below w p r s z =
-    record { right = λ k l i. absurd (omega arith); inside = λ k l i. absurd (omega arith); children = leaf-fits w r s z }
+    record {
+      right = λ k l i. absurd (omega arith);
+      inside = λ k l i. absurd (omega arith);
+      children = leaf-fits w r s z;
+      single = λ n k c. absurd (omega (arith, item-from (c .child), item-before (c .child)));
+    }

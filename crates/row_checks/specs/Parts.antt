@@ -4,6 +4,7 @@ use mathlib.Core.Path.{_≡_}
 use mathlib.Core.Bool.{Bool, true, false}
 use mathlib.Core.List.{List}
 use Prim.Native.Nat.{ℕ, suc, _<_}
+use lib.Dec.{eqb}
 use Rattle.rules.specs.Rows.{kind, detail, size, end}
 use Rattle.rules.specs.Class.{detailAllowed, base}
 use Rattle.rules.specs.Refusals.{Holding, nothing, statement, body, branches, statements, cases, comms, mayHold}
@@ -15,6 +16,10 @@ isList h = elim h [ nothing ↦ false | statement ↦ false | body ↦ false | b
 -- the kind that each item of the list has, 0 where any statement may stand
 abbrev pub itemKind : Holding → ℕ
 itemKind h = elim h [ nothing ↦ 0 | statement ↦ 0 | body ↦ 0 | branches ↦ 0 | statements ↦ 0 | cases ↦ 14 | comms ↦ 17 ]
+
+-- how many defaults the clause c adds to those of its Block
+unfoldable pub defaultCount : List ℕ → ℕ → ℕ
+defaultCount w c = elim (eqb (detail w c) 1) [ true ↦ 1 | false ↦ 0 ]
 
 -- the row c may be child number i of a row that holds h, once its detail is allowed
 abbrev pub MayBe : List ℕ → Holding → ℕ → ℕ → Type 0

@@ -1,5 +1,6 @@
 // What a row's size and its children's kinds say of it, before the walk comes to them.
 use rows::RowNumber;
+use rows::details;
 use rows::kinds;
 use shape::Holding;
 ghost use mathlib.Core.Path.{_≡_};
@@ -9,7 +10,7 @@ ghost use Rattle.rules.specs.Rows.{rowCount, end as endOf};
 ghost use Rattle.rules.specs.Class.{detailAllowed, classOf};
 ghost use Rattle.rules.specs.Refusals.{Holding as Holds, mayHold};
 ghost use Rattle.shape.specs.Held.{held};
-ghost use Rattle.row_checks.specs.Parts.{isList, itemKind, OneChild, TwoParts, Parts};
+ghost use Rattle.row_checks.specs.Parts.{isList, itemKind, defaultCount, OneChild, TwoParts, Parts};
 
 // Whether the only child of the row fills it and may stand there.
 fn child_fits(rows: &[u32], row: RowNumber, holding: Holding) -> bool
@@ -100,4 +101,15 @@ pub fn may_be_item(items: u32, kind: u32) -> bool
         return false;
     }
     kind != kinds::COMM
+}
+
+// 1 for a clause that is the default, 0 for another.
+pub fn count_default(rows: &[u32], clause: RowNumber) -> usize
+    requires { ⌜ clause .0 < rowCount (now rows) ⌝ }
+    ensures { λ r. ⌜ r ≡ defaultCount (now (rows .entry)) (clause .0) ⌝ }
+{
+    if rows::detail(rows, clause) == details::DEFAULT {
+        return 1;
+    }
+    0
 }

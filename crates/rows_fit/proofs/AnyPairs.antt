@@ -23,12 +23,17 @@ module _ (w p q : List ℕ) (e : pairCount p ≡ pairCount q) where
   same-bad r = rw (e, badRow)
 
   same-right : (r : ℕ) → Right w p r → Right w q r
-  same-right r a = record { allowed = sym (same-bad r) ∙ a .allowed; sized = a .sized; shaped = a .shaped; shallow = a .shallow }
+  same-right r a = record { allowed = sym (same-bad r) ∙ a .allowed; sized = a .sized; shaped = a .shaped; single = a .single; shallow = a .shallow }
 
 module _ (w : List ℕ) {n r : ℕ} where
   pub right-below-any : RightBelow w (somePairs n) r → (p : List ℕ) → pairCount p ≡ n → RightBelow w p r
   right-below-any a p e =
-      record { right = λ k l m. same-right w (somePairs n) p (so-many n ∙ sym e) k (a .right k l m); inside = a .inside; children = a .children }
+      record {
+        right = λ k l m. same-right w (somePairs n) p (so-many n ∙ sym e) k (a .right k l m);
+        inside = a .inside;
+        children = a .children;
+        single = a .single;
+      }
 
   pub right-any : Right w (somePairs n) r → (p : List ℕ) → pairCount p ≡ n → Right w p r
   right-any a p e = same-right w (somePairs n) p (so-many n ∙ sym e) r a

@@ -14,12 +14,12 @@ use native.Mathlib.Decide.{ℕ-discrete, decLt}
 use Rattle.rules.specs.Scan.{lowest}
 use Rattle.rules.specs.Rows.{rowCount, kind, detail, size, end, depth}
 use Rattle.rules.specs.Class.{Class, block, oneOf, detailAllowed, base, following, class}
-use Rattle.rules.specs.Refusals.{Holding, holding, badRow}
+use Rattle.rules.specs.Refusals.{Holding, nothing, statement, body, branches, statements, cases, comms, holding, badRow}
 use Rattle.rules.proofs.Every.{every, of-classes, implies, implied}
 use Rattle.rules.proofs.Facts.{good-row}
 use Rattle.shape.specs.DetailedTo.{DetailedTo}
 use Rattle.row_checks.specs.Parts.{isList, itemKind, TwoParts, Parts}
-use Rattle.row_checks.specs.Right.{Right, RightBelow, Met}
+use Rattle.row_checks.specs.Right.{Single, Right, RightBelow, Met}
 use Rattle.rows_fit.proofs.Deeper.{deeper}
 use Rattle.row_checks.proofs.RightRows.{never, right-size, right-shape, shape-right, Fit}
 use Rattle.row_checks.proofs.PartsFit.{parts-fit, part-next}
@@ -33,6 +33,16 @@ block-follows b c = implied (oneOf (block ∷ []) c) (isList (holding (following
 block-list : (w : List ℕ) (r : ℕ) → oneOf (block ∷ []) (base w (suc r)) ≡ true → isList (holding (class w (suc r))) ≡ true
 unfolding class
 block-list w r = block-follows (base w r) (base w (suc r))
+
+-- only a list has clauses
+no-clauses : (h : Holding) → isList h ≡ false → itemKind h ≡ 0
+no-clauses nothing l = refl
+no-clauses statement l = refl
+no-clauses body l = refl
+no-clauses branches l = refl
+no-clauses statements l = refl
+no-clauses cases l = never (sym l)
+no-clauses comms l = never (sym l)
 
 -- ---- the walk
 
@@ -97,6 +107,7 @@ goes-through {w} {p} {b} {s} a {c} o l =
         right = λ k u v. all k (omega arith) (omega arith);
         inside = λ k u v. omega (arith, o .seen .inside k (omega arith) (omega arith));
         children = shape-right w b (a .later) (own .shaped);
+        single = own .single;
       },
     )
   where
@@ -154,14 +165,15 @@ module _ {w p : List ℕ} {b s g c d : ℕ} (a : Turn w p b s g c d) where
             deepest = a .shallow;
           }
 
-  row-right : Fit w c → Right w p c
-  row-right f =
+  row-right : Fit w c → Single w c → Right w p c
+  row-right f single =
       let m = a .start .later in
       let n = a .going .low in
       record {
         allowed = a .allowed;
         sized = right-size w c (here .some-rows) (in-rows .1);
         shaped = right-shape w c (λ e. absurd (omega arith)) f;
+        single = single;
         shallow = omega (arith, here .shallow, a .shallow);
       }
 
@@ -184,7 +196,7 @@ module _ {w p : List ℕ} {b s g c d : ℕ} (a : Turn w p b s g c d) where
 
         right : Details w b (b + s) → (k : ℕ) → b ≤ k → k < end w c → Right w p k
         right t k i j = elim (ℕ-discrete k c) [
-          | yes e ↦ subst (λ (k : ℕ). Right w p k) (sym e) (row-right (v .children))
+          | yes e ↦ subst (λ (k : ℕ). Right w p k) (sym e) (row-right (v .children) (v .single))
           | no n ↦ elim (decLt k c) [ yes y ↦ a .going .seen .right t k i y | no y ↦ v .right k (omega arith) j ]
         ]
 
@@ -232,6 +244,9 @@ module _ {w p : List ℕ} {b s g c d : ℕ} (a : Turn w p b s g c d) where
     ends : end w c ≡ b + s
     ends = ⊎-elim (λ (e : end w c ≡ b + s). e) (λ (q : BodyOf w c d (b + s)). absurd (no-body q)) (here .after)
 
+    no-clause : itemKind (holding (class w c)) ≡ 0
+    no-clause = rw (← e) (no-clauses h n)
+
     parts-seen : Seen w p b (suc c) (b + s)
     parts-seen = record { allowed = allowed; inside = inside; right = right }
       where
@@ -245,7 +260,7 @@ module _ {w p : List ℕ} {b s g c d : ℕ} (a : Turn w p b s g c d) where
         right t k i j = elim (ℕ-discrete k c) [
           | yes y ↦
               subst (λ (k : ℕ). Right w p k) (sym y)
-              (row-right (parts-fit w c (λ k u m. t k (omega (arith, a .going .low)) (omega (arith, ends))) e n v))
+              (row-right (parts-fit w c (λ k u m. t k (omega (arith, a .going .low)) (omega (arith, ends))) e n v) (λ o. absurd (o no-clause)))
           | no z ↦ a .going .seen .right t k i (omega arith)
         ]
 

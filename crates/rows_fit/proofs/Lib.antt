@@ -1,4 +1,5 @@
 pub mod AnyPairs
 pub mod Deeper
+pub mod Clauses
 pub mod Going
 pub mod Listing

@@ -16,7 +16,7 @@ use Rattle.shape.specs.DetailedTo.{DetailedTo}
 use Rattle.shape.proofs.Stepping.{may, Walk, begin, ended, next}
 use Rattle.row_checks.specs.Plain.{PlainItem, PlainItems}
 use Rattle.row_checks.specs.Parts.{isList, itemKind}
-use Rattle.row_checks.specs.Right.{Right, RightBelow, Met}
+use Rattle.row_checks.specs.Right.{Single, Right, RightBelow, Met}
 use Rattle.rows_fit.proofs.Deeper.{deeper}
 use Rattle.row_checks.proofs.RightRows.{never, right-size, right-shape, class-needs, leaf-below}
 
@@ -96,8 +96,8 @@ module _ {w : List ℕ} (p : List ℕ) {r s d : ℕ} (a : List-at w r s d) where
 
 module _ {w p : List ℕ} {r s d : ℕ} (a : List-at w r s d) {c : ℕ} (o : Listed w p r (r + s) c) where
   -- with no item left
-  pub items-right : r + s ≤ c → RightBelow w p r
-  items-right l =
+  pub items-right : r + s ≤ c → Single w r → RightBelow w p r
+  items-right l single =
       let z = a .size-is in
       let m = o .walk .high in
       record {
@@ -106,6 +106,7 @@ module _ {w p : List ℕ} {r s d : ℕ} (a : List-at w r s d) {c : ℕ} (o : Lis
         children =
             sym (ended w (holding (class w r)) r (a .size-is) (o .walk) l refl)
             ∙ le-leb (atLeast (holding (class w r))) (o .number) (omega (arith, list-needs (holding (class w r)) (a .list)));
+        single = single;
       }
 
 -- ---- at an item of size n, as the code read it
@@ -197,6 +198,7 @@ past-plain {w} {p} {r} {c = c} a q z o l b =
       allowed = b .allowed;
       sized = right-size w c (omega arith) (omega arith);
       shaped = right-shape w c (λ e. absurd (omega arith)) (f .children);
+      single = f .single;
       shallow = omega (arith, item-depth o, a .met .shallow);
     } in
     past record { list = a; listed = o; left = l; size-is = sym n; some-rows = omega arith; within = omega arith }

@@ -1,5 +1,6 @@
-// One walk down the rows, which finds out whether none of the causes 4, 5 and 6 applies. It doesn't
-// say which applies, or to which row.
+// One walk down the rows, which finds out whether none of the causes 4, 5, 10 and 6 applies. It
+// doesn't say which applies, or to which row.
+use row_checks::parts::count_default;
 use row_checks::parts::holds_list;
 use row_checks::parts::item_kind;
 use row_checks::parts::may_be_item;
@@ -19,8 +20,8 @@ ghost use Rattle.shape.specs.DetailedTo.{DetailedTo};
 ghost use Rattle.row_checks.specs.Right.{Right, RightBelow, Met};
 ghost use Rattle.row_checks.specs.Parts.{isList, itemKind};
 
-// Whether none of the causes 4, 5 and 6 applies to the statement, which is so deep, and to the rows
-// below it. A row whose only child fills it is followed by that child; only lists take a call.
+// Whether none of the causes 4, 5, 10 and 6 applies to the statement, which is so deep, and to the
+// rows below it. A row whose only child fills it is followed by that child; only lists take a call.
 fn statement_fits(rows: &[u32], pair_count: usize, row: RowNumber, depth: usize) -> bool
     requires { ⌜ Met (now rows) (row .0) depth × (0 < row .0) ⌝ }
     ensures { λ r. ⌜ (r ≡ true → (p : List ℕ) → pairCount p ≡ «pair_count» → Right (now (rows .entry)) p (row .0)
@@ -55,7 +56,7 @@ fn statement_fits(rows: &[u32], pair_count: usize, row: RowNumber, depth: usize)
 }
 
 // The same of the rows below a list, which is so deep and whose items have this kind. Plain items are
-// passed in runs.
+// passed in runs, and of clauses at most one is the default.
 fn list_fits(rows: &[u32], pair_count: usize, row: RowNumber, depth: usize, items: u32) -> bool
     requires { ⌜ Met (now rows) (row .0) depth × DetailedTo (now rows) (row .0) × (isList (holdingOf (class (now rows) (row .0))) ≡ true)
         × (items ≡ itemKind (holdingOf (class (now rows) (row .0)))) ⌝ }
@@ -66,9 +67,12 @@ fn list_fits(rows: &[u32], pair_count: usize, row: RowNumber, depth: usize, item
         return end == row.0 + 1;
     }
     let mut c = row.0 + 1;
+    let mut defaults = 0;
     while c < end {
         if items == 0 {
             c = end_of_items(rows, pair_count, c, end);
+        } else {
+            defaults += count_default(rows, RowNumber(c));
         }
         if c < end {
             let item = RowNumber(c);
@@ -88,10 +92,10 @@ fn list_fits(rows: &[u32], pair_count: usize, row: RowNumber, depth: usize, item
             c += size;
         }
     }
-    true
+    defaults <= 1
 }
 
-// Whether none of the causes 4, 5 and 6 applies to the rows.
+// Whether none of the causes 4, 5, 10 and 6 applies to the rows.
 pub fn well_formed_rows(rows: &[u32], pairs: &[u32]) -> bool
     requires { ⌜ (0 < rowCount (now rows)) × (rowCount (now rows) ≤ 2000) ⌝ }
     ensures { λ r. ⌜ (r ≡ true → (k : ℕ) → k < rowCount (now (rows .entry)) → Right (now (rows .entry)) (now (pairs .entry)) k) ⌝ }

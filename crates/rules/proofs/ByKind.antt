@@ -1,7 +1,7 @@
 -- What a kind alone says of the class and of what stands below the row: each rule is one test over the table of the allowed details.
 -- Assumes nothing.
 use mathlib.Core.Path.{_≡_, refl, sym, _∙_, ap}
-use mathlib.Core.Bool.{Bool, true, false, _||_, not, or-false}
+use mathlib.Core.Bool.{Bool, true, false, _&&_, _||_, not, or-false}
 use mathlib.Core.List.{List, [], _∷_}
 use Prim.Native.Nat.{ℕ, zero, suc}
 use lib.Dec.{eqb}
@@ -9,7 +9,7 @@ use lib.ListN.{getD}
 use borrow.Author.Tests.{eqb-true, ne-eqb}
 use Rattle.rules.specs.Scan.{lowest}
 use Rattle.rules.specs.Class.{Class, empty, block, if, ifElse, select, oneOf, isBranch, isSwitch, isLoop, isBreakable, isCase, isComm, isStatement}
-use Rattle.rules.specs.Class.{detailAllowed, classOf}
+use Rattle.rules.specs.Class.{isDefault, detailAllowed, classOf}
 use Rattle.rules.specs.Scope.{holdsItems}
 use Rattle.rules.specs.Refusals.{Holding, nothing, statement, body, branches, statements, cases, comms, holding, mayHold}
 use Rattle.rules.proofs.Every.{every, same, same-eq, implies, implied}
@@ -56,6 +56,12 @@ module _ (k d : ℕ) (a : detailAllowed k d ≡ true) where
   pub kind-comm : eqb k 17 ≡ isComm (classOf k d)
   unfolding every lowest detailAllowed classOf
   kind-comm = by-kind (λ j. eqb j 17) isComm refl k d a
+
+  -- a default is a Case or Comm of detail 1
+  pub kind-default : (eqb d 1 && among (14 ∷ 17 ∷ []) k) ≡ isDefault (classOf k d)
+  unfolding every lowest detailAllowed classOf
+  kind-default = same-eq (eqb d 1 && among (14 ∷ 17 ∷ []) k) (isDefault (classOf k d))
+      (of-allowed (λ j i. same (eqb i 1 && among (14 ∷ 17 ∷ []) j) (isDefault (classOf j i))) refl k d a)
 
   pub kind-statement : not (among (14 ∷ 17 ∷ []) k) ≡ isStatement (classOf k d)
   unfolding every lowest detailAllowed classOf

@@ -10,8 +10,8 @@ use lib.ListN.{getD, take}
 use Rattle.rules.specs.Scan.{lowest}
 use Rattle.rules.specs.Rows.{rowCount, depth}
 use Rattle.rules.specs.Names.{pairCount, badNameWords, badPair}
-use Rattle.rules.specs.Refusals.{badRowWords, badRow, badSize, badShape, cause1, cause2, cause3, cause4, cause5, cause6, causes, firstCause, refusal}
-use Rattle.rules.specs.Refusals.{WellFormed}
+use Rattle.rules.specs.Refusals.{badRowWords, badRow, badSize, badShape, cause1, cause2, cause3, cause4, cause5, secondDefault, cause10, cause6, causes}
+use Rattle.rules.specs.Refusals.{firstCause, refusal, WellFormed}
 use Rattle.rules.proofs.Test.{case-of, case-found, clash}
 
 -- ---- lists of causes
@@ -75,6 +75,10 @@ module _ (w : List ℕ) where
   unfolding cause5
   is-5 e = rw (e, cause5)
 
+  pub is-10 : cause10 w ≡ lowest (secondDefault w) (rowCount w)
+  unfolding cause10
+  is-10 = refl
+
   pub is-6 : cause6 w ≡ lowest (λ r. ltb 100 (depth w r)) (rowCount w)
   unfolding cause6
   is-6 = refl
@@ -104,6 +108,7 @@ pub record NoCause (w p b : List ℕ) : Type 0 where
   pub rows : lowest (badRow w p) (rowCount w) ≡ none
   pub sizes : lowest (badSize w) (rowCount w) ≡ none
   pub shapes : lowest (badShape w) (rowCount w) ≡ none
+  pub defaults : lowest (secondDefault w) (rowCount w) ≡ none
   pub depths : lowest (λ r. ltb 100 (depth w r)) (rowCount w) ≡ none
 
 -- a cause that doesn't apply, and a test of it that passed
@@ -112,7 +117,7 @@ neither e f = absurd (clash (cc))
 
 pub no-cause : (w p b : List ℕ) → WellFormed w p b → NoCause w p b
 no-cause w p b wf =
-    let (e1, (e2, (e3, (e4, (e5, (e6, _)))))) = none-applies w p b wf in
+    let (e1, (e2, (e3, (e4, (e5, (e10, (e6, _))))))) = none-applies w p b wf in
     let sizes = case-found (lowest (badSize w) (rowCount w)) (λ r e. neither e5 (bad-size-5 w r e)) (λ e. e) in
     record {
       row-words = case-of (badRowWords w) (λ t. neither e1 (bad-1 w t)) (λ f. f);
@@ -121,5 +126,6 @@ no-cause w p b wf =
       rows = sym (is-4 w p) ∙ e4;
       sizes = sizes;
       shapes = sym (is-5 w sizes) ∙ e5;
+      defaults = sym (is-10 w) ∙ e10;
       depths = sym (is-6 w) ∙ e6;
     }

@@ -21,6 +21,7 @@ use Rattle.rules.proofs.Pairs.{names-ok}
 use Rattle.rules.proofs.Causes.{no-cause}
 use Rattle.rules.proofs.Nesting as nesting
 use Rattle.rules.proofs.Shape as shape
+use Rattle.rules.proofs.Defaults.{one-default}
 
 -- ---- cause 1
 pub record RowWords (w : List ℕ) : Type 0 where
@@ -102,5 +103,6 @@ body w p b wf =
       one-statement = shape.one-statement w sized detailed shaped;
       one-block = shape.one-block w sized detailed shaped;
       two-parts = shape.two-parts w sized detailed shaped;
+      one-default = one-default sized inside (n .defaults);
       shallow = λ r l. ltb-false 100 (depth w r) (lowest-none (λ q. ltb 100 (depth w q)) (rowCount w) r (n .depths) l);
     }

@@ -12,7 +12,9 @@ pub mod ByKind
 pub mod Classes
 pub mod Children
 pub mod Shape
+pub mod Defaults
 pub mod Facts
+pub mod DefaultsUsed
 pub mod Tried
 pub mod Table
 pub mod Lent

@@ -33,6 +33,13 @@ pub item-later : {w : List ℕ} {e c s t : ℕ} → Item w e c s → Item w e (e
 item-later (here h) j = later h j
 item-later (later h i) j = later h (item-later i j)
 
+-- of two items the higher is one from the lower one's end on
+pub item-after : {w : List ℕ} {e c s t : ℕ} → Item w e c s → Item w e c t → s < t → Item w e (end w s) t
+item-after (here h) (here k) l = absurd (omega arith)
+item-after (here h) (later k j) l = j
+item-after (later h i) (here k) l = absurd (omega (arith, item-from i))
+item-after (later h i) (later k j) l = item-after i j l
+
 module _ {w : List ℕ} (sized : Sized w) where
   -- the item in which q stands; f bounds the steps
   item-around : (f c e q : ℕ) → q < c + f → c ≤ q → q < e → e ≤ rowCount w → (d : ℕ) × Item w e c d × d ≤ q × q < end w d

@@ -243,11 +243,10 @@ leavesSwitch = Block 8 ∷ Switch 7 ∷ Block 6 ∷ Default 5 ∷ If 3 ∷ Block
 abbrev leavesSelect : List Entry
 leavesSelect = Block 8 ∷ Select 7 ∷ Block 6 ∷ Comm 5 ∷ If 3 ∷ Block 2 ∷ Break 0 ∷ Return ∷ []
 
--- of a switch: a Case without items, a default in any place, two defaults, no default, a type switch, a break;
+-- of a switch: a Case without items, a default in any place, no default, a type switch, a break;
 -- of a Select: no default, a Comm without items, a break; a default alone, with and without items, and one beside a Comm
 pub clauses : Marks (Block 4 ∷ Switch 3 ∷ Block 2 ∷ Default 1 ∷ []) [] false
     × Marks (Block 7 ∷ Switch 6 ∷ Block 5 ∷ Default 2 ∷ Return ∷ Case 2 ∷ Return ∷ []) [] true
-    × Marks (Block 7 ∷ Switch 6 ∷ Block 5 ∷ Default 2 ∷ Return ∷ Default 2 ∷ Return ∷ []) [] true
     × Marks (Block 5 ∷ Switch 4 ∷ Block 3 ∷ Case 2 ∷ Return ∷ []) [] false
     × Marks (Block 5 ∷ entry 16 0 0 4 ∷ Block 3 ∷ Default 2 ∷ Return ∷ []) [] true
     × Marks leavesSwitch [] false
@@ -259,7 +258,6 @@ pub clauses : Marks (Block 4 ∷ Switch 3 ∷ Block 2 ∷ Default 1 ∷ []) [] f
     × Marks (Block 7 ∷ Select 6 ∷ Block 5 ∷ DefaultComm 2 ∷ Return ∷ Comm 2 ∷ Return ∷ []) [] true
 unfolding computed
 clauses = (
-  (refl, refl, refl),
   (refl, refl, refl),
   (refl, refl, refl),
   (refl, refl, refl),

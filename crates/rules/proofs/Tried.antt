@@ -83,6 +83,41 @@ deep : Refused (tower 99 (row 12 0 0 1)) none × Refused (tower 100 (row 12 0 0 
 unfolding computed
 deep = (refl, refl)
 
+-- ---- 10: two defaults in one switch or Select
+
+-- a body with a statement of kind k over these clauses, which have n rows and begin at row 3
+abbrev over : ℕ → ℕ → List ℕ → List ℕ
+over k n clauses = row 12 0 0 (suc (suc (suc n))) ++ row k 0 0 (suc (suc n)) ++ row 12 0 0 (suc n) ++ clauses
+
+-- the first and the last of three clauses; in a type switch; in a Select; of three the second; one passes, and so does one in each of two switches, side by
+-- side or one in a clause of the other; a switch in the default of one with two has no part in it; and of two switches with two the lower row is charged,
+-- here that of the inner one
+defaults : Refused (over 15 3 (row 14 1 0 1 ++ row 14 0 0 1 ++ row 14 1 0 1)) (some (10, 5))
+    × Refused (over 16 2 (row 14 1 0 1 ++ row 14 1 0 1)) (some (10, 4))
+    × Refused (over 18 2 (row 17 1 0 1 ++ row 17 1 0 1)) (some (10, 4))
+    × Refused (over 15 4 (row 14 0 0 1 ++ row 14 1 0 1 ++ row 14 1 0 1 ++ row 14 1 0 1)) (some (10, 5))
+    × Refused (over 15 2 (row 14 0 0 1 ++ row 14 1 0 1)) none
+    × Refused (row 12 0 0 7 ++ row 15 0 0 3 ++ row 12 0 0 2 ++ row 14 1 0 1 ++ row 18 0 0 3 ++ row 12 0 0 2 ++ row 17 1 0 1) none
+    × Refused (over 15 5 (row 14 0 0 4 ++ row 15 0 0 3 ++ row 12 0 0 2 ++ row 14 1 0 1 ++ row 14 1 0 1)) none
+    × Refused (over 15 4 (row 14 1 0 4 ++ row 16 0 0 3 ++ row 12 0 0 2 ++ row 14 1 0 1)) none
+    × Refused (over 15 5 (row 14 1 0 4 ++ row 15 0 0 3 ++ row 12 0 0 2 ++ row 14 1 0 1 ++ row 14 1 0 1)) (some (10, 7))
+    × Refused (over 15 6 (row 14 1 0 5 ++ row 15 0 0 4 ++ row 12 0 0 3 ++ row 14 1 0 1 ++ row 14 1 0 1 ++ row 14 1 0 1)) (some (10, 7))
+unfolding computed
+defaults = (refl, refl, refl, refl, refl, refl, refl, refl, refl, refl)
+
+-- two defaults, at rows 3 and 4, or one, and Blocks around a last row that is 102 deep
+abbrev deepDefaults : ℕ → List ℕ → List ℕ
+deepDefaults first last = row 12 0 0 106 ++ row 15 0 0 4 ++ row 12 0 0 3 ++ row 14 first 0 1 ++ row 14 1 0 1 ++ tower 100 last
+
+-- 4 comes before 10 and 5 does, wherever their rows are, and 10 before 6
+order-10 : Refused (over 15 3 (row 14 1 0 1 ++ row 14 1 0 1 ++ row 14 2 0 1)) (some (4, 5))
+    × Refused (over 15 3 (row 14 1 0 1 ++ row 14 1 0 2 ++ row 14 0 0 1)) (some (5, 4))
+    × Refused (deepDefaults 1 (row 12 0 0 1)) (some (10, 4))
+    × Refused (deepDefaults 0 (row 12 0 0 1)) (some (6, 104))
+    × Refused (deepDefaults 1 (row 14 0 0 1)) (some (5, 104))
+unfolding computed
+order-10 = (refl, refl, refl, refl, refl)
+
 -- names: bytes of a number, none for 0 and past the last; ranks by bytes, a prefix first and equal bytes under one rank (`ab`, `a`, `ab`, 0xFF)
 ranks : (nameBytes (0 ∷ 2 ∷ 2 ∷ 1 ∷ []) (97 ∷ 98 ∷ 97 ∷ []) 1 ≡ 97 ∷ 98 ∷ [])
     × (nameBytes (0 ∷ 2 ∷ 2 ∷ 1 ∷ []) (97 ∷ 98 ∷ 97 ∷ []) 0 ≡ [])

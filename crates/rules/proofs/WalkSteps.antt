@@ -130,7 +130,7 @@ not-nine : (w p b : List ℕ) (r : ℕ × ℕ) → refusal w p b ≡ some r → 
 unfolding refusal hasNumber
 not-nine w p b r e z = let h = first-number (causes w p b) r e in let y : false ≡ true = rw z at h in clash (cc)
 
--- ---- the call: refusals 1 to 6, then 8, then the walk
+-- ---- the call: refusals 1 to 6 and 10, then 8, then the walk
 module _ (w p b : List ℕ) where
   -- 8: a row on the sheet, else a row badly placed
   pub faulty-sheet : length (sheet w p b) ≢ 0 → isFaulty w p b ≡ true

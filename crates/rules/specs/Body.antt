@@ -7,7 +7,7 @@ use mathlib.Core.Option.{some}
 use Prim.Native.Nat.{ℕ, suc, _*_, _≤_, _<_}
 use lib.ListN.{length}
 use Rattle.rules.specs.Rows.{rowCount, kind, detail, position, name, size, end, parent, depth, Child}
-use Rattle.rules.specs.Class.{Class, block, if, ifElse, oneOf, isStatement, isCase, isComm, following, detailAllowed, base, class}
+use Rattle.rules.specs.Class.{Class, block, if, ifElse, oneOf, isStatement, isCase, isComm, isDefault, following, detailAllowed, base, class}
 use Rattle.rules.specs.Names.{pairCount, namesOk}
 use Rattle.rules.specs.Refusals.{nameAllowed, nothing, statement, body, branches, statements, cases, comms, holding}
 
@@ -44,6 +44,19 @@ OneChild w r = (suc r < end w r) × (end w (suc r) ≡ end w r)
 abbrev pub TwoChildren : List ℕ → ℕ → Type 0
 TwoChildren w r = (suc r < end w r) × (class w (suc r) ≡ block) × (end w (suc r) < end w r) × (end w (end w (suc r)) ≡ end w r)
 
+-- the child r of p is a default clause, and so is an earlier child of p
+pub record SecondChild (w : List ℕ) (p r : ℕ) : Type 0 where
+  pub child : Child w p r
+  pub default : isDefault (base w r) ≡ true
+  pub earlier : ℕ
+  pub before : earlier < r
+  pub earlier-child : Child w p earlier
+  pub earlier-default : isDefault (base w earlier) ≡ true
+
+-- of the children of p at most one is a default clause
+abbrev pub OneDefault : List ℕ → ℕ → Type 0
+OneDefault w p = (r : ℕ) → SecondChild w p r → ⊥
+
 pub record Body (w p b : List ℕ) : Type 0 where
   pub some-rows : 0 < rowCount w
   pub most-rows : rowCount w ≤ 2000
@@ -67,6 +80,7 @@ pub record Body (w p b : List ℕ) : Type 0 where
   pub one-statement : (r : ℕ) → r < rowCount w → holding (class w r) ≡ statement → OneChild w r
   pub one-block : (r : ℕ) → r < rowCount w → holding (class w r) ≡ body → OneChild w r
   pub two-parts : (r : ℕ) → r < rowCount w → holding (class w r) ≡ branches → TwoChildren w r
+  pub one-default : (r : ℕ) → r < rowCount w → OneDefault w r
   pub shallow : (r : ℕ) → r < rowCount w → depth w r ≤ 100
 
 -- the rows of a well-formed body, whatever names are lent with them

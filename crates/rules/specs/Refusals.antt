@@ -1,4 +1,4 @@
--- Document 01, "Refusals, tested in this order": the causes 1 to 6, each with its index, over all rows before the next.
+-- Document 01, "Refusals, tested in this order": the causes 1 to 6, each with its index, over all rows before the next; and document 02's cause 10 (U4).
 -- Sums are over whole numbers, so none wraps. A word is at most 4,294,967,295 by its type.
 -- Assumes nothing.
 use mathlib.Core.Path.{_≡_}
@@ -8,11 +8,11 @@ use mathlib.Core.Option.{Option, none, some}
 use Prim.Native.Nat.{ℕ, zero, suc, _%_}
 use lib.Dec.{ltb, leb, eqb}
 use lib.ListN.{length}
-use Rattle.rules.specs.Scan.{lowest}
-use Rattle.rules.specs.Rows.{rowCount, kind, detail, position, name, size, end, depth}
+use Rattle.rules.specs.Scan.{lowest, howMany}
+use Rattle.rules.specs.Rows.{rowCount, kind, detail, position, name, size, end, sameParent, depth}
 use Rattle.rules.specs.Class.{Class, plain, declaration, empty, labeled, stop, break, continue, goto, fallthrough, block, caseBlock, commBlock, if}
 use Rattle.rules.specs.Class.{ifElse, case, defaultCase, comm, defaultComm, switch, typeSwitch, select, for, forCond, oneOf, isBranch, isCase, isComm}
-use Rattle.rules.specs.Class.{isStatement, detailAllowed, base, class}
+use Rattle.rules.specs.Class.{isDefault, isStatement, detailAllowed, base, class}
 use Rattle.rules.specs.Names.{pairCount, badNameWords, badPair}
 
 -- ---- 1: row words empty, not a multiple of 5, or over 2,000 rows
@@ -99,6 +99,12 @@ unfoldable pub badShape : List ℕ → ℕ → Bool
 badShape w r =
     not (childrenFit (size w r) w (holding (class w r)) (end w r) 0 (suc r) && elim r [ zero ↦ isBody w | suc q ↦ true ])
 
+-- ---- 10: two defaults in one switch or Select
+
+-- r is a default clause, and so is a row before it in the same Block
+unfoldable pub secondDefault : List ℕ → ℕ → Bool
+secondDefault w r = isDefault (base w r) && ltb 0 (howMany (λ q. isDefault (base w q) && sameParent w q r) r)
+
 -- ---- the causes with their indexes
 
 abbrev pub when : Bool → Option ℕ
@@ -120,13 +126,17 @@ cause4 w p = lowest (badRow w p) (rowCount w)
 unfoldable pub cause5 : List ℕ → Option ℕ
 cause5 w = elim (lowest (badSize w) (rowCount w)) [ some r ↦ some r | none ↦ lowest (badShape w) (rowCount w) ]
 
+-- the first clause that is a second default
+unfoldable pub cause10 : List ℕ → Option ℕ
+cause10 w = lowest (secondDefault w) (rowCount w)
+
 -- a row over 100 deep
 unfoldable pub cause6 : List ℕ → Option ℕ
 cause6 w = lowest (λ r. ltb 100 (depth w r)) (rowCount w)
 
 -- the causes with their numbers, in the order in which they are tried
 abbrev pub causes : List ℕ → List ℕ → List ℕ → List (ℕ × Option ℕ)
-causes w p b = (1, cause1 w) ∷ (2, cause2 p b) ∷ (3, cause3 p b) ∷ (4, cause4 w p) ∷ (5, cause5 w) ∷ (6, cause6 w) ∷ []
+causes w p b = (1, cause1 w) ∷ (2, cause2 p b) ∷ (3, cause3 p b) ∷ (4, cause4 w p) ∷ (5, cause5 w) ∷ (10, cause10 w) ∷ (6, cause6 w) ∷ []
 
 -- the number and the index of the first that applies, or none
 unfoldable pub firstCause : List (ℕ × Option ℕ) → Option (ℕ × ℕ)
@@ -136,6 +146,6 @@ firstCause (c ∷ cs) = elim (c .1) [ some i ↦ some (c .0, i) | none ↦ first
 unfoldable pub refusal : List ℕ → List ℕ → List ℕ → Option (ℕ × ℕ)
 refusal w p b = firstCause (causes w p b)
 
--- well-formed: none of the causes 1 to 6 applies
+-- well-formed: none of the causes 1 to 6 and 10 applies
 abbrev pub WellFormed : List ℕ → List ℕ → List ℕ → Type 0
 WellFormed w p b = refusal w p b ≡ none

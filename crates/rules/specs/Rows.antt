@@ -1,9 +1,10 @@
 -- Document 01, "The lent records": a row is five words (kind, detail, position, name, size); rows stand in preorder.
 -- Assumes nothing.
-use mathlib.Core.Option.{Option}
+use mathlib.Core.Bool.{Bool, false}
+use mathlib.Core.Option.{Option, none, some}
 use mathlib.Core.List.{List}
 use Prim.Native.Nat.{ℕ, suc, _+_, _*_, _/_, _<_}
-use lib.Dec.{ltb}
+use lib.Dec.{ltb, eqb}
 use lib.ListN.{length, getD}
 use Rattle.rules.specs.Scan.{highest, howMany}
 
@@ -35,6 +36,10 @@ end w r = r + size w r
 -- the parent of r: the closest row before it that reaches past it
 unfoldable pub parent : List ℕ → ℕ → Option ℕ
 parent w r = highest (λ p. ltb r (end w p)) r
+
+-- q and r have the same parent
+abbrev pub sameParent : List ℕ → ℕ → ℕ → Bool
+sameParent w q r = elim (parent w q) [ none ↦ false | some p ↦ elim (parent w r) [ none ↦ false | some s ↦ eqb p s ] ]
 
 -- row 0 is 1 deep, and every other row one deeper than the rows around it are many
 unfoldable pub depth : List ℕ → ℕ → ℕ

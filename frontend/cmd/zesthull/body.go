@@ -57,13 +57,17 @@ func theBody(r *mark.Result, name string) (*mark.Body, error) {
 	switch {
 	case len(found) == 0 && name != "":
 		return nil, fmt.Errorf("%s has no function %s", r.Name, name)
-	case len(found) == 0 || !found[0].Marked():
+	case len(found) == 0 || !hasRows(found[0]):
 		return nil, whyNone(r)
 	case len(found) > 1:
 		return nil, fmt.Errorf("%s has %d bodies; -func says which: %s", r.Name, len(found), names(found))
 	}
 	return found[0], nil
 }
+
+// hasRows tells whether the body has rows to write or to walk: no syntax error, and no refusal for a limit. Multiple defaults
+// are a fault as others are.
+func hasRows(b *mark.Body) bool { return b.Marked() || len(b.SecondDefaults) > 0 }
 
 func names(bodies []*mark.Body) (list string) {
 	for i, b := range bodies {

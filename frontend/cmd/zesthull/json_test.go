@@ -150,7 +150,7 @@ func TestJSONText(t *testing.T) {
 	}
 }
 
-// What no object tells is told on standard error: syntax errors and refusals.
+// What no object tells is told on standard error: syntax errors, and refusals in words.
 func TestJSONUnmarked(t *testing.T) {
 	deep := strings.Repeat("{", 101) + strings.Repeat("}", 101)
 	for text, word := range map[string]string{

@@ -1,4 +1,4 @@
-// Command zesthull marks the function bodies of Go files: label faults, misplaced branches, missing returns.
+// Command zesthull marks the function bodies of Go files: label faults, misplaced branches, missing returns, multiple defaults.
 package main
 
 import (
@@ -13,11 +13,12 @@ import (
 const (
 	clean  = 0
 	faulty = 1
-	// unread: something could not be read or was refused, or the call itself was wrong
+	// unread: something could not be read or is over a limit, or the call itself was wrong
 	unread = 2
 )
 
-const usage = `zesthull marks the function bodies of Go files: label faults, misplaced branches, missing returns.
+const usage = `zesthull marks the function bodies of Go files: label faults, misplaced branches, missing returns,
+multiple defaults.
 
   zesthull mark [-v] [-json] [-log FILE] FILE|DIR|-...
       marks every function and function literal of the files, of all .go files below a folder, or of
@@ -40,7 +41,7 @@ const usage = `zesthull marks the function bodies of Go files: label faults, mis
   zesthull -version
 
 Exit code: 0 clean, 1 faults (or, of walk, a choice out of range), 2 something could not be read or
-was refused.
+is over a limit.
 `
 
 func main() {

@@ -19,7 +19,7 @@ var files = map[string]string{
 	"long.go": "package p; func f() {" + strings.Repeat("x++;", 2000) + "}",
 }
 
-// 0 clean, 1 faults, 2 what couldn't be read or was refused; of several files the greatest.
+// 0 clean, 1 faults, 2 what couldn't be read or is over a limit; of several files the greatest.
 func TestExitCodes(t *testing.T) {
 	inFolder(t, files)
 	cases := []struct {

@@ -17,11 +17,12 @@ func (c *marking) render(r *mark.Result) []byte {
 	return lines(r, r.Findings)
 }
 
-// renderUnmarked is what -json tells beside its objects: syntax errors and refusals.
+// renderUnmarked is what -json tells beside its objects: syntax errors, multiple defaults and other refusals.
 func renderUnmarked(r *mark.Result) []byte {
 	var list []mark.Finding
 	for _, f := range r.Findings {
-		if f.Kind == mark.Syntax || f.Kind == mark.Refused {
+		switch f.Kind {
+		case mark.Syntax, mark.MultipleDefaults, mark.Refused:
 			list = append(list, f)
 		}
 	}

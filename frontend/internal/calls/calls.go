@@ -48,6 +48,10 @@ type Refusal struct {
 
 func (r *Refusal) Error() string { return fmt.Sprintf("refused %d %d", r.Number, r.Index) }
 
+// MultipleDefaults is the refusal of a body with two defaults in one switch, type switch or select. Its index is the row of
+// the first clause that is a second default.
+const MultipleDefaults = 10
+
 // Mark is the label, placing and verdict calls in one.
 func Mark(b Body) (Marks, error) {
 	rows := b.RowCount()

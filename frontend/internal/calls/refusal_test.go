@@ -43,7 +43,39 @@ func second(row ...uint32) Body {
 	return b
 }
 
-// The refusals of document 01, each with its index, and bodies at the limits.
+// clauses is a Block with a statement of that kind as its one item, whose clauses have these details, from row 3 on.
+func clauses(statement, clause uint32, details ...uint32) Body {
+	n := uint32(len(details))
+	b := body("", [5]uint32{12, 0, 1, 0, n + 3}, [5]uint32{statement, 0, 2, 0, n + 2}, [5]uint32{12, 0, 3, 0, n + 1})
+	for i, detail := range details {
+		b.Rows = append(b.Rows, clause, detail, uint32(i)+4, 0, 1)
+	}
+	return b
+}
+
+// inner is {switch {default: switch {default: default:} default:}}, with these details of the second clauses.
+func inner(inner, outer uint32) Body {
+	return body("", [5]uint32{12, 0, 1, 0, 9}, [5]uint32{15, 0, 2, 0, 8}, [5]uint32{12, 0, 3, 0, 7}, [5]uint32{14, 1, 4, 0, 5},
+		[5]uint32{15, 0, 5, 0, 4}, [5]uint32{12, 0, 6, 0, 3}, [5]uint32{14, 1, 7, 0, 1}, [5]uint32{14, inner, 8, 0, 1}, [5]uint32{14, outer, 9, 0, 1})
+}
+
+// inFront is the body with that row of size 1 before its first item.
+func inFront(b Body, row ...uint32) Body {
+	rows := append(append(append([]uint32{}, b.Rows[:5]...), row...), b.Rows[5:]...)
+	rows[4]++
+	return Body{rows, b.Pairs, b.Bytes}
+}
+
+// blocksDeep is the body in so many Blocks.
+func blocksDeep(n int, b Body) Body {
+	rows := b.Rows
+	for ; n > 0; n-- {
+		rows = append([]uint32{12, 0, 1, 0, uint32(len(rows)/5 + 1)}, rows...)
+	}
+	return Body{rows, b.Pairs, b.Bytes}
+}
+
+// The refusals of documents 01 and 02, each with its index, and bodies at the limits.
 var refusals = []struct {
 	name   string
 	body   Body
@@ -90,11 +122,28 @@ var refusals = []struct {
 	{"100 deep", deep(100), 0, 0},
 	{"101 deep", deep(101), 6, 100},
 
+	{"one default", clauses(15, 14, 0, 1, 0), 0, 0},
+	{"no default", clauses(15, 14, 0, 0, 0), 0, 0},
+	{"a default in each of two", inner(0, 0), 0, 0},
+	{"two defaults", clauses(15, 14, 1, 1), 10, 4},
+	{"two defaults, first and last", clauses(15, 14, 1, 0, 0, 1), 10, 6},
+	{"two defaults in the middle", clauses(15, 14, 0, 1, 1, 0), 10, 5},
+	{"three defaults", clauses(15, 14, 0, 1, 0, 1, 1), 10, 6},
+	{"two defaults of a type switch", clauses(16, 14, 1, 0, 1), 10, 5},
+	{"two defaults of a select", clauses(18, 17, 1, 1), 10, 4},
+	{"two defaults of the inner switch", inner(1, 0), 10, 7},
+	{"two defaults of the outer switch", inner(0, 1), 10, 8},
+	{"two defaults of both", inner(1, 1), 10, 7},
+	{"two defaults 100 deep", blocksDeep(96, clauses(15, 14, 1, 1)), 10, 100},
+
 	// each cause is tried over all rows before the next
 	{"1 before 2", Body{Pairs: []uint32{0}}, 1, 0},
 	{"2 before 3", Body{Rows: []uint32{12, 0, 1, 0, 1}, Pairs: []uint32{0, 0, 0}}, 2, 0},
 	{"3 before 4", Body{Rows: []uint32{21, 0, 1, 0, 1}, Pairs: []uint32{0, 0}}, 3, 0},
 	{"4 before 5", Body{Rows: []uint32{12, 0, 1, 0, 0, 21, 0, 1, 0, 1}}, 4, 1},
+	{"4 before 10", clauses(15, 14, 1, 1, 2), 4, 5},
+	{"5 before 10", inFront(clauses(15, 14, 1, 1), 13, 0, 1, 0, 1), 5, 1},
+	{"10 before 6", blocksDeep(97, clauses(15, 14, 1, 1)), 10, 101},
 }
 
 func TestRefusals(t *testing.T) {

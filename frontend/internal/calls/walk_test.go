@@ -70,6 +70,8 @@ func TestWalkRefusals(t *testing.T) {
 		{"past the default", twoCases(1), []uint32{2}, 9, OutOfRange, 0},
 		{"past going on", twoCases(0), []uint32{3}, 9, OutOfRange, 0},
 		{"4 before 8", second(11, 0, 0, 0, 1), nil, 9, 4, 1},
+		{"10 before 8", inFront(clauses(15, 14, 1, 1), 11, 0, 1, 0, 1), nil, 9, MultipleDefaults, 5},
+		{"10 before 9", clauses(15, 14, 1, 1), []uint32{7}, 9, MultipleDefaults, 4},
 	}
 	for _, c := range cases {
 		_, err := Walk(c.body, c.choices, c.limit)

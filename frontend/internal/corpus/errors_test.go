@@ -14,8 +14,8 @@ import (
 
 // TestErrorsOfGo holds the findings to the ERROR comments of all files below GOROOT/test, which are label.go, label1.go, goto.go
 // and return.go among others. Both ways:
-//   - each error asked for that is about labels, gotos, the placing of branches or missing returns has a finding on its line
-//     whose message matches;
+//   - each error asked for that is about labels, gotos, the placing of branches, missing returns or multiple defaults has a
+//     finding on its line whose message matches;
 //   - no such finding stands on another line. So there is none in the files that have to compile.
 func TestErrorsOfGo(t *testing.T) {
 	var found differences
@@ -47,7 +47,7 @@ var (
 )
 
 // ourWords tell that an error is of our kinds.
-var ourWords = regexp.MustCompile(`label |goto |fallthrough|missing return|in a loop|jumps `)
+var ourWords = regexp.MustCompile(`label |goto |fallthrough|missing return|in a loop|jumps |multiple defaults`)
 
 // The errors of these files are of our kinds, but asked for with words such as "L" and "return".
 var ourFiles = map[string]bool{
@@ -106,7 +106,8 @@ func compareErrors(d *differences, f file, wanted []expected) {
 // findingsOf lists those of our kinds.
 func findingsOf(r *mark.Result) (list []expected) {
 	for _, f := range r.Findings {
-		if f.Kind == mark.Label || f.Kind == mark.Misplaced || f.Kind == mark.MissingReturn {
+		switch f.Kind {
+		case mark.Label, mark.Misplaced, mark.MissingReturn, mark.MultipleDefaults:
 			line, _ := r.Place(f.Position)
 			list = append(list, expected{line, f.Message})
 		}

@@ -13,9 +13,9 @@ const (
 	mostDepth = 100
 )
 
-// compareRefusal requires a body to be refused, and that to be told, exactly where it is over a limit.
-func (s *source) compareRefusal(b *mark.Body, list []statement) {
-	expected, got := refusalOf(list), calls.Refusal{}
+// compareRefusal requires a body to have that refusal, and a limit that it is over to be told.
+func (s *source) compareRefusal(b *mark.Body, expected calls.Refusal) {
+	got := calls.Refusal{}
 	if b.Refusal != nil {
 		got = *b.Refusal
 	}
@@ -26,8 +26,8 @@ func (s *source) compareRefusal(b *mark.Body, list []statement) {
 	for _, f := range s.result.Findings {
 		told = told || f.Kind == mark.Refused && f.Position == s.result.Position(b.Function.At)
 	}
-	if told != (expected.Number > 0) {
-		s.differs("func %s: a refusal is told: %v, and by its statements it has %+v", b.Function.Name, told, expected)
+	if told != (expected.Number > 0 && expected.Number != calls.MultipleDefaults) {
+		s.differs("func %s: a limit is told: %v, and by its statements it has %+v", b.Function.Name, told, expected)
 	}
 }
 
@@ -45,6 +45,12 @@ func refusalOf(list []statement) calls.Refusal {
 		return calls.Refusal{Number: 1}
 	case len(names) > mostNames || size > mostBytes:
 		return calls.Refusal{Number: 2}
+	}
+	second := secondDefaults(list)
+	for i, s := range list {
+		if second[s.Stmt] != nil {
+			return calls.Refusal{Number: calls.MultipleDefaults, Index: i}
+		}
 	}
 	for i, s := range list {
 		if s.depth > mostDepth {

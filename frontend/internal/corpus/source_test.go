@@ -6,17 +6,19 @@ import (
 	"sync"
 	"testing"
 
+	"zesthull/internal/calls"
 	"zesthull/internal/mark"
 	"zesthull/internal/script"
 )
 
 // TestSource reads all of Go's source and tests. It requires of each file:
 //   - the functions, their rows, names and positions are those of the syntax tree, which is read here in another way;
-//   - a body is refused exactly where it is over a limit, with the number and the index of document 01;
+//   - a body is refused exactly where it is over a limit or has multiple defaults, with the number and the index of documents 01
+//     and 02, and all its multiple defaults are told;
 //   - the syntax errors are go/parser's own.
 //
-// In a file with syntax errors the front end parses each declaration by itself. There the rows are held to the text alone, and
-// no body may be refused.
+// In a file with syntax errors the front end parses each declaration by itself. There the rows are held to the text alone. No
+// body may be over a limit, and multiple defaults are told where the file asks for them.
 func TestSource(t *testing.T) {
 	var found differences
 	var all counts
@@ -26,14 +28,15 @@ func TestSource(t *testing.T) {
 		if len(s.tree.errors) == 0 {
 			s.compareFunctions()
 		} else {
-			s.refusesNone()
+			s.isWithinLimits()
+			s.compareAskedDefaults()
 		}
 		s.compareTexts()
 		all.add(&s)
 	})
 	found.compare(t, acceptedSyntaxErrors)
 	t.Logf("%+v", all.figures)
-	if all.Refused == 0 || all.WithErrors == 0 || all.Label == 0 || all.Misplaced == 0 || all.MissingReturn == 0 {
+	if all.Refused == 0 || all.WithErrors == 0 || all.Label == 0 || all.Misplaced == 0 || all.MissingReturn == 0 || all.MultipleDefaults == 0 {
 		t.Error("a kind of finding doesn't occur")
 	}
 }
@@ -64,6 +67,7 @@ func (s *source) compareFunctions() {
 		s.differs("the bodies are not those of the tree")
 		return
 	}
+	second := faults{}
 	for i, f := range s.tree.functions {
 		b := &s.result.Bodies[i]
 		s.comparePlace(s.result.Position(b.Function.At), f.at)
@@ -72,13 +76,18 @@ func (s *source) compareFunctions() {
 		}
 		list := statements(f.body)
 		s.compareRows(b.Body, list)
-		s.compareRefusal(b, list)
+		refusal := refusalOf(list)
+		s.compareRefusal(b, refusal)
+		if refusal.Number == calls.MultipleDefaults {
+			s.addDefaults(second, list)
+		}
 	}
+	s.compareDefaults(second)
 }
 
-func (s *source) refusesNone() {
+func (s *source) isWithinLimits() {
 	for i := range s.result.Bodies {
-		if b := &s.result.Bodies[i]; b.Refusal != nil {
+		if b := &s.result.Bodies[i]; b.Refusal != nil && b.Refusal.Number != calls.MultipleDefaults {
 			s.differs("func %s: %v", b.Function.Name, b.Refusal)
 		}
 	}
@@ -86,7 +95,7 @@ func (s *source) refusesNone() {
 
 // figures are what was read and found.
 type figures struct {
-	Files, WithErrors, Bodies, Broken, Rows, Refused, Label, Misplaced, MissingReturn int
+	Files, WithErrors, Bodies, Broken, Rows, Refused, Label, Misplaced, MissingReturn, MultipleDefaults int
 }
 
 type counts struct {
@@ -109,7 +118,7 @@ func (c *counts) add(s *source) {
 		}
 	}
 	kinds := map[mark.Kind]*int{mark.Syntax: new(int), mark.Label: &c.Label, mark.Misplaced: &c.Misplaced,
-		mark.MissingReturn: &c.MissingReturn, mark.Refused: &c.Refused}
+		mark.MissingReturn: &c.MissingReturn, mark.MultipleDefaults: &c.MultipleDefaults, mark.Refused: &c.Refused}
 	for _, f := range s.result.Findings {
 		*kinds[f.Kind]++
 	}

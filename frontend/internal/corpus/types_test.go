@@ -2,6 +2,7 @@ package corpus
 
 import (
 	"go/token"
+	"go/types"
 	"regexp"
 	"strings"
 	"sync"
@@ -12,7 +13,8 @@ import (
 )
 
 // TestTypes compares the findings in each file that has no syntax error with the errors of go/types on the same file: label
-// faults, misplaced branches and missing returns, by line, column and message.
+// faults, misplaced branches, missing returns and multiple defaults, by line, column and message. A body with multiple defaults
+// is refused, so of its other errors none is compared.
 func TestTypes(t *testing.T) { compareTypes(t, false, acceptedTypes) }
 
 // TestVerdicts does so with the files opened up, so that go/types leaves out nothing and gives a verdict on each body.
@@ -58,15 +60,16 @@ func compareTypes(t *testing.T, open bool, accepted string) {
 	})
 	found.compare(t, accepted)
 	t.Logf("%+v", all.tally)
-	if all.Errors < 500 || open && all.Unmet*10000 > all.Statements {
+	if all.Errors < 500 || all.Defaults == 0 || open && all.Unmet*10000 > all.Statements {
 		t.Error("go/types left out too much")
 	}
 }
 
 // A tally counts what was compared. Unbegun bodies and unmet statements are those that go/types left out, untyped panics those
-// that it didn't count.
+// that it didn't count. Errors are those of go/types that were compared, defaults the multiple defaults among them, and beside
+// defaults are its other errors in the same bodies, which were not.
 type tally struct {
-	Files, Bodies, Unbegun, Statements, Unmet, UntypedPanics, Errors int
+	Files, Bodies, Unbegun, Statements, Unmet, UntypedPanics, Errors, Defaults, BesideDefaults int
 }
 
 func (t *tally) add(o tally) {
@@ -77,6 +80,8 @@ func (t *tally) add(o tally) {
 	t.Unmet += o.Unmet
 	t.UntypedPanics += o.UntypedPanics
 	t.Errors += o.Errors
+	t.Defaults += o.Defaults
+	t.BesideDefaults += o.BesideDefaults
 }
 
 // A comparison is a file with the findings of the front end and the errors of go/types.
@@ -101,6 +106,10 @@ func (c *comparison) compare() {
 	}
 	ours, theirs := c.ours(), c.theirs()
 	c.Errors = len(theirs)
+	c.bothWays(ours, theirs)
+}
+
+func (c *comparison) bothWays(ours, theirs faults) {
 	for f := range ours {
 		if !theirs[f] {
 			c.differsAt(f.line, f.column, "%s, which go/types hasn't", f.message)
@@ -123,7 +132,7 @@ type fault struct {
 
 var (
 	ourErrors = regexp.MustCompile(`^label \S+ (declared but not used|already declared|not declared)$|^goto \S+ jumps ` +
-		`|^invalid (break|continue) label |^(break|continue) not in |fallthrough|^missing return$`)
+		`|^invalid (break|continue) label |^(break|continue) not in |fallthrough|^missing return$|^multiple defaults `)
 	otherDeclaration = "\tother declaration of "
 )
 
@@ -134,12 +143,25 @@ func (c *comparison) theirs() faults {
 	for _, e := range c.errors {
 		is := ourErrors.MatchString(e.Msg)
 		if is || before && strings.HasPrefix(e.Msg, otherDeclaration) {
-			line, column := c.tree.place(e.Pos)
-			list[fault{line, column, e.Msg}] = true
+			c.addError(list, e)
 		}
 		before = is
 	}
 	return list
+}
+
+// addError adds an error of go/types, unless it stands beside multiple defaults.
+func (c *comparison) addError(list faults, e types.Error) {
+	line, column := c.tree.place(e.Pos)
+	switch {
+	case isOfDefaults(e):
+		c.Defaults++
+		list[fault{line, column, belowRoot(e.Msg)}] = true
+	case c.refusalAt(e.Pos) == calls.MultipleDefaults:
+		c.BesideDefaults++
+	default:
+		list[fault{line, column, e.Msg}] = true
+	}
 }
 
 // theirWords puts our messages, which are the compiler's, into the words of go/types.
@@ -153,7 +175,7 @@ func (c *comparison) ours() faults {
 	list := faults{}
 	for _, f := range c.result.Findings {
 		switch f.Kind {
-		case mark.Label, mark.Misplaced, mark.MissingReturn:
+		case mark.Label, mark.Misplaced, mark.MissingReturn, mark.MultipleDefaults:
 			c.addFinding(list, f)
 		}
 	}

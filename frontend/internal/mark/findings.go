@@ -19,6 +19,8 @@ const (
 	Misplaced
 	// MissingReturn: a function with results whose verdict is no.
 	MissingReturn
+	// MultipleDefaults: a second default of a switch, type switch or select.
+	MultipleDefaults
 	// Refused: a body that is over a limit.
 	Refused
 )
@@ -100,10 +102,7 @@ func endsSwitch(list []rows.Row, row int) bool {
 	for item > 0 && list[item-1].Kind == rows.Labeled {
 		item--
 	}
-	c := item - 1
-	for c >= 0 && c+list[c].Size <= item {
-		c--
-	}
+	c := parent(list, item)
 	if c < 0 || list[c].Kind != rows.Case {
 		return false
 	}
@@ -113,11 +112,17 @@ func endsSwitch(list []rows.Row, row int) bool {
 			return false
 		}
 	}
-	block := c - 1
-	for block+list[block].Size <= c {
-		block--
-	}
+	block := parent(list, c)
 	return block+list[block].Size == end
+}
+
+// parent is the row that the row is a child of, or -1.
+func parent(list []rows.Row, row int) int {
+	above := row - 1
+	for above >= 0 && above+list[above].Size <= row {
+		above--
+	}
+	return above
 }
 
 func (r *Result) missingReturn(b *Body) {
@@ -126,11 +131,29 @@ func (r *Result) missingReturn(b *Body) {
 	}
 }
 
+// multipleDefaults tells each default but the first of its switch or select, and where that one is.
+func (r *Result) multipleDefaults(b *Body) {
+	for _, clause := range b.SecondDefaults {
+		line, column := r.Place(b.Rows[firstDefault(b.Rows, clause)].Position)
+		r.find(MultipleDefaults, b.Rows[clause].Position, "multiple defaults (first at %s:%d:%d)", r.Name, line, column)
+	}
+}
+
+// firstDefault is the first default among the clauses that this default stands in one Block with.
+func firstDefault(list []rows.Row, clause int) int {
+	first := parent(list, clause) + 1
+	for list[first].Detail == 0 {
+		first += list[first].Size
+	}
+	return first
+}
+
 func (r *Result) refused(b *Body) {
 	r.find(Refused, r.Position(b.Function.At), "%s: not marked: %s", b.Title(), refusalMessage(b))
 }
 
-// refusalMessage says a refusal in words. Rows made from Go's syntax tree get 1, 2 and 6 alone.
+// refusalMessage says a refusal in words. Rows made from Go's syntax tree get 1, 2, 6 and 10 alone, and 10 is told as
+// multiple defaults.
 func refusalMessage(b *Body) string {
 	switch b.Refusal.Number {
 	case 1:

@@ -1,15 +1,22 @@
 package mark
 
 import (
+	"sort"
 	"testing"
 
 	"zesthull/internal/script"
 )
 
+// Bodies with two defaults in a switch or select.
+var twoDefaults = []string{
+	"switch { default: default: }", "switch x.(type) { default: case a: default: default: }", "select { default: default: }; break",
+	"switch { default: switch { default: default: }; default: }", "switch { default: func() { select { default: default: } }() }",
+}
+
 // Any text is marked without a crash, and what is found hangs together. `go test` tries the texts of the other tests;
 // `go test -fuzz FuzzScript` makes more of them.
 func FuzzScript(f *testing.F) {
-	for _, text := range append(terminating, going...) {
+	for _, text := range append(append(terminating, going...), twoDefaults...) {
 		f.Add([]byte(text))
 		f.Add([]byte("package p\n\nfunc f() int {\n" + text + "\n}\n"))
 	}
@@ -35,13 +42,14 @@ func checkResult(t *testing.T, r *Result) {
 	}
 }
 
-// checkBody: rows of a syntax tree are refused with 1, 2 and 6 alone, and the first row badly placed heads the list.
+// checkBody: rows of a syntax tree are refused with 1, 2, 6 and 10 alone, and the first row badly placed heads the list.
 func checkBody(t *testing.T, b *Body) {
 	t.Helper()
 	if b.Refusal != nil {
-		if n := b.Refusal.Number; n != 1 && n != 2 && n != 6 {
+		if n := b.Refusal.Number; n != 1 && n != 2 && n != 6 && n != 10 {
 			t.Errorf("%s: %v", b.Function.Name, b.Refusal)
 		}
+		checkSecondDefaults(t, b)
 		return
 	}
 	if !b.Marked() {
@@ -54,5 +62,14 @@ func checkBody(t *testing.T, b *Body) {
 	if first != b.Marks.Misplaced || len(b.Marks.Bindings) != len(b.Rows) {
 		t.Errorf("%s: misplaced %d, the first %d; %d bindings for %d rows", b.Function.Name, b.Misplaced, b.Marks.Misplaced,
 			len(b.Marks.Bindings), len(b.Rows))
+	}
+}
+
+// checkSecondDefaults: those of a refusal 10 ascend from its row on; another refusal has none.
+func checkSecondDefaults(t *testing.T, b *Body) {
+	t.Helper()
+	list := b.SecondDefaults
+	if (b.Refusal.Number == 10) != (len(list) > 0) || len(list) > 0 && list[0] != b.Refusal.Index || !sort.IntsAreSorted(list) {
+		t.Errorf("%s: %v, second defaults %d", b.Function.Name, b.Refusal, list)
 	}
 }

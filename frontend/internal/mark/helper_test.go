@@ -19,7 +19,9 @@ func unmarked(marked string) (text string, places []int) {
 }
 
 // marked marks a file or a list of statements.
-func marked(text string) *Result { return Script(script.Read("x.go", []byte(text))) }
+func marked(text string) *Result { return markedAs("x.go", text) }
+
+func markedAs(name, text string) *Result { return Script(script.Read(name, []byte(text))) }
 
 // A findingCase is a text with @ before the place of each finding, and the messages, with a line end between them. Other
 // places follow their message in parentheses.

@@ -18,7 +18,9 @@ type Body struct {
 	Marks calls.Marks
 	// Misplaced are all rows badly placed, ascending.
 	Misplaced []int
-	Refusal   *calls.Refusal
+	// SecondDefaults are all clauses with a default before them in the same switch or select, ascending. Refusal has the first.
+	SecondDefaults []int
+	Refusal        *calls.Refusal
 }
 
 // Marked tells whether the body has marks.
@@ -40,25 +42,35 @@ func Script(s *script.Script) *Result {
 	for _, f := range s.Functions {
 		b := body(s, f)
 		r.Bodies = append(r.Bodies, b)
-		if b.Refusal != nil {
-			r.refused(&b)
-		} else if b.Marked() {
-			r.label(&b)
-			r.misplaced(&b)
-			r.missingReturn(&b)
-		}
+		r.tell(&b)
 	}
 	r.sort()
 	return r
+}
+
+// tell adds the findings of a body. One that is refused has no others.
+func (r *Result) tell(b *Body) {
+	switch {
+	case len(b.SecondDefaults) > 0:
+		r.multipleDefaults(b)
+	case b.Refusal != nil:
+		r.refused(b)
+	case b.Marked():
+		r.label(b)
+		r.misplaced(b)
+		r.missingReturn(b)
+	}
 }
 
 func (r *Result) sort() {
 	sort.SliceStable(r.Findings, func(i, j int) bool { return r.Findings[i].Position < r.Findings[j].Position })
 }
 
-// Faults are the label faults and the misplaced branches of one body, in the order of their places.
+// Faults are those of one body that stand in the way of a walk, in the order of their places: its multiple defaults, or its
+// label faults and misplaced branches.
 func (r *Result) Faults(b *Body) []Finding {
 	one := Result{Script: r.Script}
+	one.multipleDefaults(b)
 	one.label(b)
 	one.misplaced(b)
 	one.sort()
@@ -74,6 +86,7 @@ func body(s *script.Script, f script.Function) Body {
 	words := b.Words()
 	marks, err := calls.Mark(words)
 	if errors.As(err, &b.Refusal) {
+		b.SecondDefaults = allSecondDefaults(words, b.Refusal)
 		return b
 	}
 	b.Marks = marks
@@ -98,17 +111,35 @@ func allMisplaced(words calls.Body, first int) (misplaced []int) {
 	return misplaced
 }
 
+// allSecondDefaults are the clauses that are a second default. The refusal tells the first; with that clause made no default
+// another refusal tells the next. The first default of a switch is never told, so the others stay second defaults.
+func allSecondDefaults(words calls.Body, refusal *calls.Refusal) (clauses []int) {
+	for refusal != nil && refusal.Number == calls.MultipleDefaults {
+		clauses = append(clauses, refusal.Index)
+		words.Rows[refusal.Index*5+1] = 0
+		refusal = refusalOf(words)
+	}
+	return clauses
+}
+
+// refusalOf is the refusal that every call has for the words, or nil.
+func refusalOf(words calls.Body) (refusal *calls.Refusal) {
+	_, err := calls.FirstMisplaced(words)
+	errors.As(err, &refusal)
+	return refusal
+}
+
 // Counts are the figures of a script for its log line.
 type Counts struct {
 	Bodies, Faults, Misplaced, Refused int
 }
 
-// Counts adds up the findings: faults are label faults and missing returns, refused the bodies without marks.
+// Counts adds up the findings: faults are label faults, missing returns and multiple defaults, refused the bodies without marks.
 func (r *Result) Counts() Counts {
 	c := Counts{Bodies: len(r.Bodies)}
 	for _, f := range r.Findings {
 		switch f.Kind {
-		case Label, MissingReturn:
+		case Label, MissingReturn, MultipleDefaults:
 			c.Faults++
 		case Misplaced:
 			c.Misplaced++

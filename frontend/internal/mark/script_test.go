@@ -77,6 +77,11 @@ func TestCounts(t *testing.T) {
 		{"break; continue; fallthrough", Counts{Bodies: 1, Misplaced: 3}},
 		{"package p; func f() int {}", Counts{Bodies: 1, Faults: 1}},
 		{"package p; func f() int { break; L: func() { goto M; continue }() }", Counts{Bodies: 2, Faults: 3, Misplaced: 2}},
+		// a body with multiple defaults has no marks, and each but the first is a fault
+		{"switch { default: default: }", Counts{Bodies: 1, Faults: 1, Refused: 1}},
+		{"switch { default: default: default: }; select { default: default: }; L: break", Counts{Bodies: 1, Faults: 3, Refused: 1}},
+		{"package p; func f() int { switch { default: default: }; func() { L: break }() }; func g() int {}",
+			Counts{Bodies: 3, Faults: 3, Misplaced: 1, Refused: 1}},
 		{long, Counts{Bodies: 1, Refused: 1}},
 		{"package p; func f() {" + long + "}; func g() int { continue }", Counts{Bodies: 2, Faults: 1, Misplaced: 1, Refused: 1}},
 		// a body with a syntax error has no marks either

@@ -1,6 +1,7 @@
 package rows
 
 import (
+	"errors"
 	"math/rand"
 	"strings"
 	"testing"
@@ -8,7 +9,8 @@ import (
 	"zesthull/internal/calls"
 )
 
-// Rows made from a syntax tree are never refused with 3, 4 or 5: for a pair, for a row's words or for the shape.
+// Rows made from a syntax tree are never refused with 3, 4 or 5: for a pair, for a row's words or for the shape. With 10 they
+// are where a switch or select has two defaults.
 func TestCasesAreAccepted(t *testing.T) {
 	for _, cases := range [][]bodyCase{plain, panics, branchCases, labels, ifs, loops, switches, selects, blocks} {
 		for _, c := range cases {
@@ -26,11 +28,16 @@ func TestRandomBodiesAreAccepted(t *testing.T) {
 		g := generator{random: random, left: 3 + random.Intn(29)} // a statement goes three deep at most
 		text := "{" + g.list() + "}"
 		b := parsed(t, text)
-		if _, err := calls.Mark(b.Words()); err != nil {
-			t.Fatalf("%s: %v", text, err)
+		if _, err := calls.Mark(b.Words()); (err != nil) != g.twice || g.twice && !isMultipleDefaults(err) {
+			t.Fatalf("%s: %v, and two defaults in one: %v", text, err, g.twice)
 		}
 		checkOrder(t, text, b)
 	}
+}
+
+func isMultipleDefaults(err error) bool {
+	var refusal *calls.Refusal
+	return errors.As(err, &refusal) && refusal.Number == calls.MultipleDefaults
 }
 
 // checkOrder: row 0 has all rows below it, and each row's place is after that of the row before.
@@ -50,6 +57,8 @@ func checkOrder(t *testing.T, text string, b Body) {
 type generator struct {
 	random *rand.Rand
 	left   int
+	// twice: two defaults were written in one switch or select
+	twice bool
 }
 
 var (
@@ -87,8 +96,14 @@ func (g *generator) statement() string {
 
 func (g *generator) clauses(head string) string {
 	var clauses []string
+	defaults := 0
 	for n := g.random.Intn(3); n > 0; n-- {
-		clauses = append(clauses, g.pick([]string{head, "default:"})+" "+g.list())
+		word := g.pick([]string{head, "default:"})
+		if word == "default:" {
+			defaults++
+		}
+		clauses = append(clauses, word+" "+g.list())
 	}
+	g.twice = g.twice || defaults > 1
 	return strings.Join(clauses, "\n")
 }

@@ -106,6 +106,15 @@ var selects = []bodyCase{
 
 func TestSelects(t *testing.T) { tryAll(t, selects) }
 
+// go/parser lets a second default through.
+func TestSecondDefaults(t *testing.T) {
+	tryAll(t, []bodyCase{
+		{"@{@switch @{@default: @default: @x++}}", "Block:6 Switch:5 Block:4 Case.1 Case.1:2 IncDec"},
+		{"@{@switch x.(type) @{@default: @case T: @default:}}", "Block:6 TypeSwitch:5 Block:4 Case.1 Case Case.1"},
+		{"@{@select @{@default: @default:}}", "Block:5 Select:4 Block:3 Comm.1 Comm.1"},
+	})
+}
+
 var blocks = []bodyCase{
 	{"@{@{}}", "Block:2 Block"},
 	// the first semicolon after a statement ends it, the next is an Empty

@@ -198,3 +198,11 @@ func TestNoWalk(t *testing.T) {
 		}
 	}
 }
+
+func TestNoWalkOfMultipleDefaults(t *testing.T) {
+	_, err := By(statements("break; switch { default: default: }"), by(7), 0)
+	var refusal *calls.Refusal
+	if !errors.As(err, &refusal) || *refusal != (calls.Refusal{Number: calls.MultipleDefaults, Index: 5}) {
+		t.Error(err)
+	}
+}

@@ -10,6 +10,7 @@ pub fn both_sides() -> Vec<Words> {
     all.extend(rows().into_iter().map(in_block));
     all.extend(sizes());
     all.extend(depths());
+    all.extend(defaults());
     all
 }
 
@@ -91,13 +92,29 @@ fn in_block(row: [u32; 5]) -> Words {
     body.words()
 }
 
-/// Each size of a body with most shapes, moved and at extremes.
+/// Each size of a body with most shapes and of one with two defaults, moved
+/// and at extremes.
 fn sizes() -> Vec<Words> {
+    [most_shapes(), two_inside_two()].iter().flat_map(other_sizes).collect()
+}
+
+fn most_shapes() -> Words {
     let case = |items: &[Rows]| row(kind::CASE, 0, 0, items);
     let if_else = row(kind::IF, 1, 0, &[block(&[goto(1)]), block(&[])]);
     let switch = over(kind::SWITCH, &[case(&[if_else]), case(&[])]);
     let select = over(kind::SELECT, &[row(kind::COMM, 1, 0, &[leaf(kind::RETURN, 0)])]);
-    let words = body(&[label(1, over(kind::FOR, &[switch])), select], &["L"]).words();
+    body(&[label(1, over(kind::FOR, &[switch])), select], &["L"]).words()
+}
+
+/// `switch { default: switch { default: ; default: }; default: }; empty`.
+fn two_inside_two() -> Words {
+    let default = |items: &[Rows]| row(kind::CASE, 1, 0, items);
+    let inner = over(kind::SWITCH, &[default(&[]), default(&[])]);
+    let outer = over(kind::SWITCH, &[default(&[inner]), default(&[])]);
+    body(&[outer, leaf(kind::EMPTY, 0)], &[""; 0]).words()
+}
+
+fn other_sizes(words: &Words) -> Vec<Words> {
     let mut all = vec![];
     for at in (4..words.0.len()).step_by(5) {
         let size = words.0[at];
@@ -127,6 +144,25 @@ fn depths() -> Vec<Words> {
             let inner = (0..levels).fold(leaf(kind::RETURN, 0), |inner, _| around(inner));
             all.push(body(&[leaf(kind::EMPTY, 0), inner, goto(1)], &["L"]).words());
         }
+    }
+    all
+}
+
+/// Switches and Selects with and without a second default, in row 0 and inside
+/// so many Blocks that their clauses are less than, exactly and more than 100
+/// deep. Then one with two, each of its positions once 0.
+fn defaults() -> Vec<Words> {
+    let bodies = oracle::bodies::defaults();
+    let mut all: Vec<Words> = bodies.iter().map(|body| body.words()).collect();
+    for levels in 91..=97 {
+        let inside = |rows: &Rows| (0..levels).fold(rows.clone(), |inner, _| block(&[inner]));
+        all.extend(bodies.iter().map(|plain| body(&[inside(&plain.rows)], &[""; 0]).words()));
+    }
+    let two = two_inside_two();
+    for at in (2..two.0.len()).step_by(5) {
+        let mut words = two.clone();
+        words.0[at] = 0;
+        all.push(words);
     }
     all
 }

@@ -3,12 +3,15 @@
 use crate::difference::{Checked, Difference};
 use crate::numbers::grouped;
 use crate::{go, show, shrink, well_formed, words};
-use oracle::bodies::smallest;
+use oracle::bodies::{smallest, smallest_tree};
 use oracle::refusals::refusal;
 use oracle::{Body, Words};
 
 pub enum Case {
+    /// A well-formed body.
     Body(Body),
+    /// One of right shape that may be refused.
+    Tree(Body),
     Words(Words),
 }
 
@@ -24,6 +27,7 @@ impl Case {
     fn check(&self) -> Checked {
         match self {
             Case::Body(body) => well_formed::check(body).map(|_| ()),
+            Case::Tree(body) => words::check(&body.words()).map(|_| ()),
             Case::Words(words) => words::check(words).map(|_| ()),
         }
     }
@@ -32,16 +36,20 @@ impl Case {
     fn smallest(self) -> Case {
         match self {
             Case::Body(body) => Case::Body(smallest(body, &body_fails)),
-            Case::Words(words) if words_refused(&words) => {
-                Case::Words(shrink::smallest(words, &|words| words::check(words).is_err()))
-            }
-            Case::Words(words) => Case::Body(Body::of_words(&words)).smallest(),
+            Case::Tree(body) => Case::Tree(smallest_tree(body, &tree_fails)),
+            Case::Words(words) => match refusal(&words.0, &words.1, &words.2) {
+                None => Case::Body(Body::of_words(&words)).smallest(),
+                Some((6 | 10, _)) => Case::Tree(Body::of_words(&words)).smallest(),
+                Some(_) => Case::Words(shrink::smallest(words, &words_fail)),
+            },
         }
     }
 
     fn text(&self) -> String {
         match self {
-            Case::Body(body) => format!("{}\n{}", go::text(body), show::body(body)),
+            Case::Body(body) | Case::Tree(body) => {
+                format!("{}\n{}", go::text(body), show::body(body))
+            }
             Case::Words(words) => show::words(words),
         }
     }
@@ -67,6 +75,10 @@ fn body_fails(body: &Body) -> bool {
     well_formed::check(body).is_err()
 }
 
-fn words_refused((rows, pairs, bytes): &Words) -> bool {
-    refusal(rows, pairs, bytes).is_some()
+fn tree_fails(body: &Body) -> bool {
+    words_fail(&body.words())
+}
+
+fn words_fail(words: &Words) -> bool {
+    words::check(words).is_err()
 }

@@ -13,7 +13,7 @@ pub struct Occurred {
     /// Rows of each kind in well-formed bodies.
     kinds: [u64; 21],
     /// Bodies and words with each refusal, walks with 9; 0 is none.
-    refusals: [u64; 10],
+    refusals: [u64; 11],
     /// Bodies badly placed and well placed.
     placed: [u64; 2],
     /// Bodies with verdict no and yes.

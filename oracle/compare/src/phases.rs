@@ -4,7 +4,7 @@ use crate::options::Options;
 use crate::random::{Source, RANDOM};
 use crate::run::{Run, Step};
 use crate::{edges, shapes};
-use oracle::bodies::{at_limits, damage, every, Rng};
+use oracle::bodies::{at_limits, every, Rng};
 
 pub fn all(run: &mut Run, options: &Options) -> Step {
     every_small_body(run)?;
@@ -56,7 +56,7 @@ fn every_shape(run: &mut Run) -> Step {
     })
 }
 
-/// Random bodies, or words made from them by damage.
+/// Random bodies, or words made by spoiling them.
 fn random(run: &mut Run, options: &Options, number: u64, source: &Source) -> Step {
     // A seed for each phase, so that no phase depends on those before it.
     let mut rng = Rng::new(options.seed ^ (number << 56));
@@ -64,9 +64,9 @@ fn random(run: &mut Run, options: &Options, number: u64, source: &Source) -> Ste
     run.phase(source.name, total, |phase| {
         for _ in 0..total {
             let body = (source.make)(&mut rng);
-            match source.damaged {
-                true => phase.words(&damage(&mut rng, &body))?,
-                false => phase.body(&body)?,
+            match source.spoil {
+                Some(spoil) => phase.words(&spoil(&mut rng, &body))?,
+                None => phase.body(&body)?,
             }
         }
         Ok(())

@@ -20,11 +20,11 @@ pub fn show(lines: &[Line]) {
 fn show_line(Line { phase, cases, rows, refused }: &Line) {
     let compared = if *refused > 0 { "answers, refusals" } else { "answers" };
     let [cases, rows, refused] = [cases, rows, refused].map(|&count| grouped(count));
-    println!("{phase:31}{cases:>10}{rows:>12}{refused:>9}  {compared:19}{:>11}", 0);
+    println!("{phase:31}{cases:>10}{rows:>12}{refused:>11}  {compared:19}{:>11}", 0);
 }
 
 const HEADER: &str = "\
-phase                              bodies        rows  refused  compared           differences";
+phase                              bodies        rows    refused  compared           differences";
 
 const COMPARED: &str = "
 answers: of each body not refused; refusal (none), sheet, bindings and verdict
@@ -34,5 +34,5 @@ answers: of each body not refused; refusal (none), sheet, bindings and verdict
   branches add up, those bound and those on the sheet; walks of bodies without
   faults by random choices with document 01's runner read plainly, and refusal 8
   of bodies with a fault
-refusals: of words refused; number and index in every call with document 01
-  read plainly; no lent word changed; names";
+refusals: of words refused; number and index in every call with documents 01
+  and 02 read plainly; no lent word changed; names";

@@ -1,6 +1,7 @@
 //! Bodies to try, and ways to spoil and to shrink them.
 
 mod damage;
+mod defaults;
 mod every;
 mod limits;
 mod names;
@@ -12,11 +13,12 @@ mod smallest;
 mod table;
 
 pub use damage::damage;
+pub use defaults::{defaults, two_defaults};
 pub use every::every;
 pub use limits::at_limits;
 pub use names::with_any_bytes;
 pub use people::people;
 pub use random::{random, Shape};
 pub use rng::Rng;
-pub use smallest::smallest;
+pub use smallest::{smallest, smallest_tree};
 pub use table::{example, table};

@@ -212,19 +212,25 @@ impl Maker<'_> {
         }
     }
 
-    /// A switch or Select of `rows` rows.
+    /// A switch or Select of `rows` rows; two of three with clauses have a
+    /// default among them.
     fn clauses(&mut self, kind: u32, rows: usize, depth: usize) {
         let clause = if kind == kind::SELECT { kind::COMM } else { kind::CASE };
         self.push(kind, 0, 0, rows);
         self.push(kind::BLOCK, 0, 0, rows - 1);
         let mut left = rows - 2;
+        let mut clauses = vec![];
         while left > 0 {
             let fits = depth + 3 <= self.shape.depth;
             let size = if fits { self.rng.between(1, left) } else { 1 };
-            let detail = self.detail();
-            self.push(clause, detail, 0, size);
+            clauses.push(self.body.rows.len());
+            self.push(clause, 0, 0, size);
             self.list(size - 1, depth + 3);
             left -= size;
+        }
+        if !clauses.is_empty() && !self.rng.one_in(3) {
+            let default = self.rng.pick(&clauses);
+            self.body.rows[default][1] = 1;
         }
     }
 }

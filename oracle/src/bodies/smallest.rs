@@ -6,12 +6,21 @@ use crate::{kind, Body};
 /// A body that fails and of which no part can be taken away. The body given
 /// is well-formed and fails; so is every body tried.
 pub fn smallest(body: Body, fails: &dyn Fn(&Body) -> bool) -> Body {
-    let mut body = body;
-    let holds = |body: &Body| refusal_of(body).is_none() && fails(body);
-    while let Some(less) = smaller(&body, &holds) {
+    shrunk(body, &|body| refusal_of(body).is_none() && fails(body))
+}
+
+/// The same for a body of right shape, which may be too deep or have two
+/// defaults in one switch; so may every body tried.
+pub fn smallest_tree(body: Body, fails: &dyn Fn(&Body) -> bool) -> Body {
+    let is_tree = |body: &Body| matches!(refusal_of(body), None | Some((6 | 10, _)));
+    shrunk(body, &|body| is_tree(body) && fails(body))
+}
+
+fn shrunk(mut body: Body, holds: &dyn Fn(&Body) -> bool) -> Body {
+    while let Some(less) = smaller(&body, holds) {
         body = less;
     }
-    tidy(body, &holds)
+    tidy(body, holds)
 }
 
 fn smaller(body: &Body, holds: &dyn Fn(&Body) -> bool) -> Option<Body> {
@@ -20,6 +29,8 @@ fn smaller(body: &Body, holds: &dyn Fn(&Body) -> bool) -> Option<Body> {
         let tries = [
             without(body, row, size),
             without(body, row, 1),
+            // A switch, its Block and its clause, from around their items.
+            without(body, row, size.min(3)),
             without(&changed(body, row, |row| row[0] = kind::EMPTY), row + 1, size - 1),
             without_else(body, row),
         ];

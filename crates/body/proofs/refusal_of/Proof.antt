@@ -1,12 +1,13 @@
 -- `refusal_of` meets its contract: each test is that of one cause, in the order of the causes, and what comes after it knows that the cause does not apply.
--- Where the walk found every row right, none of the causes 4 to 6 applies.
+-- Where the walk found every row right, none of the causes 4, 5, 10 and 6 applies.
 -- Sizes and details have to be right before the children are stepped through; they are, since causes 4 and 5 for sizes come first.
 -- Assumes nothing.
 use mathlib.Core.Path.{_≡_, sym, _∙_, ap}
-use mathlib.Core.Bool.{false}
-use mathlib.Core.List.{List}
+use mathlib.Core.Bool.{true, false}
+use mathlib.Core.List.{List, [], _∷_}
 use mathlib.Core.Option.{none}
-use Prim.Native.Nat.{ℕ, _<_}
+use Prim.Native.Nat.{ℕ, _≤_, _<_}
+use native.Mathlib.Omega.{arith}
 use denote.Ref.{now}
 use lib.Dec.{ltb}
 use lib.ListN.{take}
@@ -14,12 +15,19 @@ use borrow.Author.Needs.{needs}
 use borrow.Author.Tests.{le-ltb}
 use Rattle.rules.specs.Scan.{lowest}
 use Rattle.rules.specs.Rows.{rowCount, depth}
-use Rattle.rules.specs.Refusals.{badRowWords, badRow, badSize, badShape, causes, WellFormed}
-use Rattle.rules.proofs.Scan.{none-lowest}
-use Rattle.rules.proofs.Causes.{NoneOf, refused-at, accepted, bad-1, good-1, bad-2, good-2, is-3, is-4, bad-size-5, is-5, is-6}
+use Rattle.rules.specs.Refusals.{holding, badRowWords, badRow, badSize, badShape, secondDefault, causes, WellFormed}
+use Rattle.rules.specs.Class.{Class, caseBlock, commBlock, class}
+use Rattle.rules.specs.Body.{Sized, Detailed}
+use Rattle.rules.proofs.ClassRules.{isClauseBlock, by-one}
+use Rattle.rules.proofs.Shape.{child-within}
+use Rattle.rules.proofs.Defaults.{none-second}
+use Rattle.rules.proofs.Scan.{lowest-none, none-lowest}
+use Rattle.rules.proofs.Causes.{NoneOf, refused-at, accepted, bad-1, good-1, bad-2, good-2, is-3, is-4, bad-size-5, is-5, is-10, is-6}
 use Rattle.rules.proofs.Facts.{row-words, details, sizes}
 use Rattle.names.specs.Place.{place}
+use Rattle.row_checks.specs.Parts.{itemKind}
 use Rattle.row_checks.specs.Right.{Right}
+use Rattle.body.specs.Defaults.{Inside}
 use Rattle.body.proofs.refusal_of.Statement.{statement}
 use Rattle.body.proofs.refusal_of.Tie as tie
 
@@ -42,6 +50,9 @@ start-5 c = start-4 (c .before .before .before)
 abbrev start-6 : tie.After-enum-told4 → tie.Start
 start-6 c = start-5 (c .before .before .before)
 
+abbrev start-7 : tie.After-enum-told5 → tie.Start
+start-7 c = start-6 (c .before .before .before)
+
 abbrev rows : tie.Start → List ℕ
 rows s = now (s .args .rows)
 
@@ -60,6 +71,9 @@ no-4 c = sym (c .before .before .first-bad-row .ensures) ∙ ap place (c .enum-t
 
 no-5 : (c : tie.After-enum-told3) → lowest (badSize (rows (start-5 c))) (rowCount (rows (start-5 c))) ≡ none
 no-5 c = sym (c .before .before .first-bad-size .ensures) ∙ ap place (c .enum-told3 .given .1)
+
+no-shape : (c : tie.After-enum-told4) → lowest (badShape (rows (start-6 c))) (rowCount (rows (start-6 c))) ≡ none
+no-shape c = sym (c .before .before .first-bad-shape .ensures) ∙ ap place (c .enum-told4 .given .1)
 
 -- ---- so none of the first k causes does
 abbrev NoneBefore : ℕ → tie.Start → Type 0
@@ -85,17 +99,42 @@ before-6 : (c : tie.After-enum-told4) → NoneBefore 5 (start-6 c)
 before-6 c =
     let k = c .before .before .before in
     let (e1, (e2, (e3, (e4, _)))) = before-5 (k .before .before .before) in
-    let e5 = is-5 _ (no-5 k) ∙ sym (c .before .before .first-bad-shape .ensures) ∙ ap place (c .enum-told4 .given .1) in
-    (e1, (e2, (e3, (e4, (e5, tt)))))
+    (e1, (e2, (e3, (e4, (is-5 _ (no-5 k) ∙ no-shape c, tt)))))
 
--- ---- none of the causes 4 to 6 applies where it does not to any row
+before-7 : (c : tie.After-enum-told5) → NoneBefore 6 (start-7 c)
+before-7 c =
+    let (e1, (e2, (e3, (e4, (e5, _))))) = before-6 (c .before .before .before) in
+    (e1, (e2, (e3, (e4, (e5, (sym (c .before .before .first-second-default .ensures) ∙ ap place (c .enum-told5 .given .1), tt))))))
+
+-- sizes and details are right where no cause up to 5 applies, and each child ends in its parent
+fit : (c : tie.After-enum-told4) → Sized (rows (start-6 c)) × Detailed (rows (start-6 c)) × Inside (rows (start-6 c))
+fit c =
+    let k = c .before .before .before in
+    let sized = sizes _ (no-5 k) in
+    let detailed = details _ _ (no-4 (k .before .before .before)) in
+    (sized, detailed, child-within _ sized detailed (λ r l. lowest-none _ _ r (no-shape c) l))
+
+most-rows : (c : tie.After-enum-told4) → rowCount (rows (start-6 c)) ≤ 2000
+most-rows c =
+    let k2 = c .before .before .before .before .before .before .before .before .before .before .before .before .before .before in
+    row-words _ (no-1 (k2 .before .before)) .most-rows
+
+-- ---- none of the causes 4, 5, 10 and 6 applies where it does not to any row
+
+-- the Block of a switch or Select has clauses
+clause-items : (c : Class) → isClauseBlock c ≡ true → itemKind (holding c) ≡ 0 → ⊥
+clause-items c t z =
+    by-one _ (caseBlock ∷ commBlock ∷ []) c t (λ e. let y : 14 ≡ 0 = rw e at z in omega arith) (λ e. let y : 17 ≡ 0 = rw e at z in omega arith)
+
 right-accepted : (w p b : List ℕ) → NoneOf (take 3 (causes w p b)) → ((k : ℕ) → k < rowCount w → Right w p k) → WellFormed w p b
 right-accepted w p b (e1, (e2, (e3, _))) f =
     let e4 = none-lowest (badRow w p) (rowCount w) (λ k l. f k l .allowed) in
-    let sizes = none-lowest (badSize w) (rowCount w) (λ k l. f k l .sized) in
+    let sized = none-lowest (badSize w) (rowCount w) (λ k l. f k l .sized) in
     let e5 = none-lowest (badShape w) (rowCount w) (λ k l. f k l .shaped) in
+    let e10 = none-lowest (secondDefault w) (rowCount w)
+    (none-second w (sizes w sized) (details w p e4) (λ r l. f r l .shaped) (λ k l c. f k l .single (clause-items (class w k) c))) in
     let e6 = none-lowest (λ r. ltb 100 (depth w r)) (rowCount w) (λ k l. le-ltb 100 (depth w k) (f k l .shallow)) in
-    accepted w p b (e1, (e2, (e3, (is-4 w p ∙ e4, (is-5 w sizes ∙ e5, (is-6 w ∙ e6, tt))))))
+    accepted w p b (e1, (e2, (e3, (is-4 w p ∙ e4, (is-5 w sized ∙ e5, (is-10 w ∙ e10, (is-6 w ∙ e6, tt)))))))
 
 bad-row-words-requires : tie.Need-bad-row-words-requires
 bad-row-words-requires c κs = search needs
@@ -174,11 +213,8 @@ returns-7 c =
 enum-told-4 : tie.Need-enum-told-4
 enum-told-4 c = search needs
 
-first-too-deep-requires : tie.Need-first-too-deep-requires
-first-too-deep-requires c κs =
-    let k5 = c .before .before .before in
-    let k2 = k5 .before .before .before .before .before .before .before .before .before .before .before in
-    (sizes _ (no-5 k5), row-words _ (no-1 (k2 .before .before)) .most-rows)
+first-second-default-requires : tie.Need-first-second-default-requires
+first-second-default-requires c κs = let f = fit c in (most-rows c, f .0, f .1, f .2)
 
 enum-known-r-4 : tie.Need-enum-known-r-4
 enum-known-r-4 c = search needs
@@ -186,15 +222,30 @@ enum-known-r-4 c = search needs
 returns-8 : tie.Need-returns-8
 returns-8 c =
     let k6 = c .before .before .before .before in
-    sym (refused-at _ _ _ 5 _ (before-6 k6) (sym (c .before .before .before .first-too-deep .ensures) ∙ ap place (c .before .r4 .given .1)))
+    sym (refused-at _ _ _ 5 _ (before-6 k6) (sym (c .before .before .before .first-second-default .ensures) ∙ ap place (c .before .r4 .given .1)))
 
 enum-told-5 : tie.Need-enum-told-5
 enum-told-5 c = search needs
 
+first-too-deep-requires : tie.Need-first-too-deep-requires
+first-too-deep-requires c κs = let k6 = c .before .before .before in (fit k6 .0, most-rows k6)
+
+enum-known-r-5 : tie.Need-enum-known-r-5
+enum-known-r-5 c = search needs
+
 returns-9 : tie.Need-returns-9
 returns-9 c =
-    let (e1, (e2, (e3, (e4, (e5, _))))) = before-6 (c .before .before .before) in
-    sym (accepted _ _ _ (e1, (e2, (e3, (e4, (e5, (sym (c .before .before .first-too-deep .ensures) ∙ ap place (c .enum-told5 .given .1), tt)))))))
+    let k7 = c .before .before .before .before in
+    sym (refused-at _ _ _ 6 _ (before-7 k7) (sym (c .before .before .before .first-too-deep .ensures) ∙ ap place (c .before .r5 .given .1)))
+
+enum-told-6 : tie.Need-enum-told-6
+enum-told-6 c = search needs
+
+returns-10 : tie.Need-returns-10
+returns-10 c =
+    let (e1, (e2, (e3, (e4, (e5, (e10, _)))))) = before-7 (c .before .before .before) in
+    let e6 = sym (c .before .before .first-too-deep .ensures) ∙ ap place (c .enum-told6 .given .1) in
+    sym (accepted _ _ _ (e1, (e2, (e3, (e4, (e5, (e10, (e6, tt))))))))
 
 pub refusal-of-spec : {M : Type 1} → statement M
 refusal-of-spec =
@@ -222,8 +273,12 @@ refusal-of-spec =
     enum-known-r-3
     returns-7
     enum-told-4
-    first-too-deep-requires
+    first-second-default-requires
     enum-known-r-4
     returns-8
     enum-told-5
-    returns-9)
+    first-too-deep-requires
+    enum-known-r-5
+    returns-9
+    enum-told-6
+    returns-10)

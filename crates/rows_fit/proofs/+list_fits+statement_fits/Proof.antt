@@ -1,18 +1,20 @@
 -- The two functions call each other, each on fewer rows: twice the rows of a list, and one more than that of a statement. `Listing` has the turns of the walk
--- through a list, whose invariant is `Listed`, and `Going` those of the walk down a statement, whose invariant is `Going`; each loop's measure is what is left
--- of the rows.
+-- through a list, whose invariant is `Listed`, and `Clauses` the defaults among its clauses (`Counted`); `Going` has those of the walk down a statement, whose
+-- invariant is `Going`. Each loop's measure is what is left of the rows.
 -- Assumes nothing.
-use mathlib.Core.Path.{refl, sym, _∙_}
-use mathlib.Core.Logic.{⊎-elim}
+use mathlib.Core.Path.{refl, sym, _∙_, ap}
+use mathlib.Core.Logic.{inl, inr, ⊎-elim}
 use Prim.Native.Nat.{ℕ, _+_, _-_, _*_, _<_, _≤_}
 use native.Mathlib.Omega.{arith}
 use borrow.Author.Needs.{needs}
-use borrow.Author.Tests.{not-true, not-false, eqb-true}
+use borrow.Author.Tests.{not-true, not-false, eqb-true, leb-true}
 use Rattle.rules.specs.Rows.{rowCount, size}
+use Rattle.rules.proofs.Facts.{good-row}
 use Rattle.rows_fit.proofs.AnyPairs.{somePairs, so-many, right-any, right-below-any}
 use Rattle.row_checks.proofs.RightRows.{never}
 use Rattle.rows_fit.proofs.Listing.{ListedFrom, Listed, from-first, List-at, no-items, begins, stands-in, items-right, Item-at, item-call, past-item}
 use Rattle.rows_fit.proofs.Listing.{to-item, at-item}
+use Rattle.rows_fit.proofs.Clauses.{CountedFrom, count-first, counts-none, counts-few, Turned, counts-past, counts-run, counts-one}
 use Rattle.rows_fit.proofs.Going.{Going, Statement-at, sets-out, goes-through, Turn, in-rows, row-known, list-call, list-falls, past-list, past-row}
 use borrow.Fn.Kinds.{In}
 use borrow.Fn.PlainCycle.{Measures, is, falls, and}
@@ -24,6 +26,7 @@ use Rattle.rows_fit.proofs.statement_fits.Kinds as statement-fits-kinds
 use Rattle.rows_fit.proofs.+list_fits+statement_fits.Lts-statement_fits as statement-fits-lts
 use Rattle.row_checks.proofs.plain.end_of_items.Reads as end-of-items-reads
 use Rattle.row_checks.proofs.row_allowed.Reads as row-allowed-reads
+use Rattle.row_checks.proofs.parts.count_default.Reads as count-default-reads
 use Rattle.row_checks.proofs.parts.holds_list.Reads as holds-list-reads
 use Rattle.row_checks.proofs.parts.item_kind.Reads as item-kind-reads
 use Rattle.row_checks.proofs.parts.may_be_item.Reads as may-be-item-reads
@@ -64,10 +67,11 @@ statement-fits-below t =
     statement-fits.Pre
 
 abbrev list-fits-Inv-loop : list-fits-lts.InvT-loop
-list-fits-Inv-loop rows pair-count depth items end c₀ c = ListedFrom rows (somePairs pair-count) c₀ end c
+list-fits-Inv-loop rows pair-count depth items end c₀ defaults₀ c defaults =
+    ListedFrom rows (somePairs pair-count) c₀ end c × CountedFrom rows items c₀ c defaults
 
 abbrev list-fits-μ-loop : list-fits-lts.MeasureT-loop
-list-fits-μ-loop rows pair-count depth items end c₀ c = end - c
+list-fits-μ-loop rows pair-count depth items end c₀ defaults₀ c defaults = end - c
 
 abbrev list-fits-calls : ℕ → list-fits-lts.Claims
 list-fits-calls t = (
@@ -75,6 +79,8 @@ list-fits-calls t = (
   size-reads.Learnt,
   end-of-items-reads.Asked,
   end-of-items-reads.Learnt,
+  count-default-reads.Asked,
+  count-default-reads.Learnt,
   kind-reads.Asked,
   kind-reads.Learnt,
   may-be-item-reads.Asked,
@@ -155,22 +161,25 @@ list-known t c =
     let s = list-fits-at-start-1 c in
     record { met = s .pre .1 .0; details = s .pre .1 .1; list = s .pre .1 .2; size-is = c .before .before .size .ensures }
 
--- past a run of plain items the walk stands at the next item, or has come to the end
+-- past a run of plain items the walk stands at the next item, or has come to the end; or it stands at a clause, and that is counted
 abbrev Past-run : (t : ℕ) → list-fits-lts.Joined2 (list-fits-calls t) (list-fits-at t) list-fits.Post list-fits-Inv-loop list-fits-μ-loop → Type 0
 Past-run t c =
     let m = c .before .before .before .before in
     let a = m .before .before .before .before .args in
     (c .before .before .loop .c ≤ c .if2 .c)
     × Listed (a .rows .now) (somePairs (a .pair-count)) (a .row .0) (a .row .0 + m .before .before .size .result) (c .if2 .c)
+    × Turned (a .rows .now) (a .items) (c .before .before .loop .c) (c .before .before .loop .defaults) (c .if2 .c) (c .if2 .defaults)
 
 past-run : (t : ℕ) (c : list-fits-lts.Joined2 (list-fits-calls t) (list-fits-at t) list-fits.Post list-fits-Inv-loop list-fits-μ-loop) → Past-run t c
 past-run t c =
     let m = c .before .before .before .before in
-    let o = c .before .before .loop .inv _ refl in
+    let o = c .before .before .loop .inv .0 _ refl in
     ⊎-elim
-    (λ a. to-item (list-known t m) (omega (arith, m .if1 .left)) (list-fits-at-start-1 m .pre .1 .3) (a .0 .taken) o
-    (a .1 .ensures (somePairs _) (so-many _)) (a .2))
-    (λ a. at-item o (a .1))
+    (λ a.
+    let x = to-item (list-known t m) (omega (arith, m .if1 .left)) (list-fits-at-start-1 m .pre .1 .3) (a .0 .taken) o
+    (a .1 .ensures (somePairs _) (so-many _)) (a .2) in
+    (x .0, x .1, inl (a .0 .taken, x .0, a .3)))
+    (λ a. let x = at-item o (a .2) in (x .0, x .1, inr (a .0 .left, a .2, a .3 ∙ ap (λ (k : ℕ). _ + k) (a .1 .ensures))))
     (c .if2 .came)
 
 item-in-rows : (t : ℕ) (c : list-fits-lts.Then3 (list-fits-calls t) (list-fits-at t) list-fits.Post list-fits-Inv-loop list-fits-μ-loop)
@@ -214,11 +223,33 @@ list-fits-add-c : (t : ℕ) → list-fits-lts.Need-add-c (list-fits-calls t) (li
 list-fits-add-c t c = omega (arith, list-fits-at-start-1 (c .before) .pre .1 .0 .row, list-fits-at-start-1 (c .before) .pre .1 .0 .most-rows)
 
 list-fits-loop-holds : (t : ℕ) → list-fits-lts.Need-loop-holds (list-fits-calls t) (list-fits-at t) list-fits.Post list-fits-Inv-loop list-fits-μ-loop
-list-fits-loop-holds t c = from-first (begins (somePairs _) (list-known t (c .before)))
+list-fits-loop-holds t c = (from-first (begins (somePairs _) (list-known t (c .before))), count-first (counts-none _ _ _))
 
 list-fits-end-of-items-requires : (t : ℕ)
     → list-fits-lts.Need-end-of-items-requires (list-fits-calls t) (list-fits-at t) list-fits.Post list-fits-Inv-loop list-fits-μ-loop
-list-fits-end-of-items-requires t c κs = stands-in (c .before .before .loop .inv _ refl)
+list-fits-end-of-items-requires t c κs = stands-in (c .before .before .loop .inv .0 _ refl)
+
+-- the clause at which the walk stands
+clause-in-rows : (t : ℕ) (c : list-fits-lts.Else2 (list-fits-calls t) (list-fits-at t) list-fits.Post list-fits-Inv-loop list-fits-μ-loop)
+    → c .before .before .loop .c < rowCount (list-fits-at-start-1 (c .before .before .before .before) .args .rows .now)
+clause-in-rows t c = omega (arith, stands-in (c .before .before .loop .inv .0 _ refl) .1, c .before .loop-test .taken)
+
+list-fits-count-default-requires : (t : ℕ)
+    → list-fits-lts.Need-count-default-requires (list-fits-calls t) (list-fits-at t) list-fits.Post list-fits-Inv-loop list-fits-μ-loop
+list-fits-count-default-requires t c κs = clause-in-rows t c
+
+list-fits-add-defaults : (t : ℕ) → list-fits-lts.Need-add-defaults (list-fits-calls t) (list-fits-at t) list-fits.Post list-fits-Inv-loop list-fits-μ-loop
+list-fits-add-defaults t c =
+    let l = c .before .before .before in
+    let s = list-fits-at-start-1 (l .before .before) in
+    omega (
+      arith,
+      l .loop .inv .1 _ refl .few,
+      clause-in-rows t (c .before),
+      s .pre .1 .0 .most-rows,
+      c .count-default .ensures,
+      counts-few (s .args .rows .now) (l .loop .c),
+    )
 
 list-fits-kind-requires : (t : ℕ) → list-fits-lts.Need-kind-requires (list-fits-calls t) (list-fits-at t) list-fits.Post list-fits-Inv-loop list-fits-μ-loop
 list-fits-kind-requires t c κs = item-in-rows t c
@@ -274,18 +305,32 @@ list-fits-loop-less t c =
 list-fits-loop-again : (t : ℕ) → list-fits-lts.Need-loop-again (list-fits-calls t) (list-fits-at t) list-fits.Post list-fits-Inv-loop list-fits-μ-loop
 list-fits-loop-again t c =
     let k = list-fits-at-if4-1 c .before .before in
-    from-first (past-item (item-known t (c .before .before)) (list-fits-at-start-3 (c .before .before) .pre .1 .3) (k .kind .ensures)
-    (list-fits-at-if4-1 c .before .may-be-item .ensures) (not-false _ (list-fits-at-if4-1 c .if4 .left))
-    (c .before .statement-fits .ensures (not-false _ (c .if7 .left)) (somePairs _) (so-many _)))
+    let j = list-fits-at-if2-1 c in
+    let i = item-known t (c .before .before) in
+    let u = c .before .statement-fits .ensures (not-false _ (c .if7 .left)) (somePairs _) (so-many _) in (
+      from-first (past-item i (list-fits-at-start-3 (c .before .before) .pre .1 .3) (k .kind .ensures) (list-fits-at-if4-1 c .before .may-be-item .ensures)
+          (not-false _ (list-fits-at-if4-1 c .if4 .left)) u),
+      count-first (counts-past (j .before .before .loop .inv .1 _ refl) (past-run t j .2) (omega (arith, i .left, i .list .size-is))
+          (good-row _ _ _ (u .0 .allowed) .detailed) (i .size-is) (i .some-rows)),
+    )
 
 list-fits-loop-less-2 : (t : ℕ) → list-fits-lts.Need-loop-less-2 (list-fits-calls t) (list-fits-at t) list-fits.Post list-fits-Inv-loop list-fits-μ-loop
 list-fits-loop-less-2 t c = omega (arith, c .if3 .left, c .before .before .loop-test .taken)
 
 list-fits-loop-again-2 : (t : ℕ) → list-fits-lts.Need-loop-again-2 (list-fits-calls t) (list-fits-at t) list-fits.Post list-fits-Inv-loop list-fits-μ-loop
-list-fits-loop-again-2 t c = from-first (past-run t (c .before) .1)
+list-fits-loop-again-2 t c =
+    let j = c .before in (
+      from-first (past-run t j .1),
+      count-first (counts-run (j .before .before .loop .inv .1 _ refl) (past-run t j .2) (j .before .loop-test .taken) (c .if3 .left)),
+    )
 
 list-fits-returns-6 : (t : ℕ) → list-fits-lts.Need-returns-6 (list-fits-calls t) (list-fits-at t) list-fits.Post list-fits-Inv-loop list-fits-μ-loop
-list-fits-returns-6 t c y = right-below-any _ (items-right (list-known t (list-fits-at-if1-1 c)) (c .before .loop .inv _ refl) (c .loop-test .left))
+list-fits-returns-6 t c y =
+    let i = c .before .loop .inv in
+    let k = list-known t (list-fits-at-if1-1 c) in
+    let s = list-fits-at-start-1 (list-fits-at-if1-1 c) in
+    right-below-any _ (items-right k (i .0 _ refl) (c .loop-test .left)
+    (counts-one (i .1 _ refl) (omega (arith, k .size-is, c .loop-test .left)) (leb-true _ _ y) (s .pre .1 .3)))
 
 -- ---- a statement
 abbrev statement-fits-Inv-loop : statement-fits-lts.InvT-loop
@@ -475,6 +520,8 @@ pub +list-fits+statement-fits-spec : {M : Type 1} → statement M
     (list-fits-add-c t)
     (list-fits-loop-holds t)
     (list-fits-end-of-items-requires t)
+    (list-fits-count-default-requires t)
+    (list-fits-add-defaults t)
     (list-fits-kind-requires t)
     (list-fits-may-be-item-requires t)
     (list-fits-returns-2 t)

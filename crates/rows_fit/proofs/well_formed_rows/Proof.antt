@@ -60,6 +60,7 @@ module _ (w p : List ℕ) (some : 0 < rowCount w) (g : badRow w p 0 ≡ false) (
               allowed = g;
               sized = right-size w 0 (omega arith) (omega arith);
               shaped = right-shape w 0 (λ e. b) (o .children);
+              single = o .single;
               shallow = omega (arith, root-depth w);
             }
         | no n ↦ o .right k (omega arith) (omega arith)

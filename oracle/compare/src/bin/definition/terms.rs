@@ -9,7 +9,7 @@ const HEAD: &str = "\
 -- Assumes nothing.
 use mathlib.Core.Bool.{true, false}
 use mathlib.Core.List.{List, [], _∷_}
-use Rattle.goscript_cases.specs.Case.{Case, Answer, both, each}
+use Rattle.goscript_cases.specs.Case.{Case, both, each}
 
 ";
 

@@ -3,8 +3,8 @@
 use crate::headers;
 use crate::list::List;
 use oracle::bodies::rows::{block, body, goto, leaf};
-use oracle::bodies::{at_limits, damage, every, example, people, random, table};
-use oracle::bodies::{with_any_bytes, Rng, Shape};
+use oracle::bodies::{at_limits, damage, defaults, every, example, people, random, table};
+use oracle::bodies::{two_defaults, with_any_bytes, Rng, Shape};
 use oracle::file::file;
 use oracle::{kind, Body};
 
@@ -38,6 +38,7 @@ pub fn all(list: &mut List) {
     }
     add_limits(list);
     add_damaged(list, &mut rng);
+    add_defaults(list, &mut rng);
 }
 
 fn small(rng: &mut Rng) -> Body {
@@ -79,6 +80,27 @@ fn add_damaged(list: &mut List, rng: &mut Rng) {
         if *taken < wanted {
             *taken += 1;
             list.add_file(file);
+        }
+    }
+}
+
+/// Switches and Selects with and without a second default, some of them over
+/// 100 deep; then random bodies with one, as they are and damaged, in files
+/// that aren't large.
+fn add_defaults(list: &mut List, rng: &mut Rng) {
+    let bodies = defaults();
+    bodies.iter().for_each(|body| list.add(&body.words()));
+    for shallow in bodies.iter().step_by(20) {
+        let deep = (0..97).fold(shallow.rows.clone(), |inner, _| block(&[inner]));
+        list.add(&body(&[deep], &[""; 0]).words());
+    }
+    for _ in 0..60 {
+        let body = small(rng);
+        let two = two_defaults(rng, &body);
+        list.add(&two.words());
+        let damaged = file(&damage(rng, &two));
+        if damaged.len() < 3_000 {
+            list.add_file(damaged);
         }
     }
 }

@@ -9,7 +9,7 @@ pub struct Summary {
     large: usize,
     codes: [usize; 10],
     kinds: [usize; 21],
-    refusals: [usize; 7],
+    refusals: [usize; 11],
     placed: [usize; 2],
     verdicts: [usize; 2],
     binds: usize,
@@ -53,7 +53,9 @@ impl Summary {
         };
         look("code", 1, &self.codes[1..]);
         look("kind", 0, &self.kinds);
-        look("refusal", 0, &self.refusals);
+        // `marks` refuses no file with 7 to 9.
+        look("refusal", 0, &self.refusals[..7]);
+        look("refusal", 10, &self.refusals[10..]);
         look("placing (0 bad, 1 well)", 0, &self.placed);
         look("verdict (0 no, 1 yes)", 0, &self.verdicts);
         missing
