@@ -16,6 +16,7 @@ use Rattle.rules.proofs.Test.{clash}
 use Rattle.rules.proofs.Details.{allowed-small}
 use Rattle.rules.proofs.ByKind.{NoneOf, kind-jump}
 use Rattle.rules.proofs.ClassTests.{one-not}
+use Rattle.rules.proofs.Placed.{well-break, well-continue, well-fallthrough, well-other}
 use Rattle.rules.proofs.Lists.{own-branch, branch-class, by-words}
 
 -- ---- a Branch, by its detail
@@ -24,23 +25,23 @@ module _ (w : List ℕ) (r d : ℕ) (a : detailAllowed (kind w r) (detail w r) �
   by-detail n = branch-class w r d n a k i
 
   pub place-break : d ≡ 0 → isSome (innermost w isBreakable r) ≡ wellPlaced w r
-  unfolding classOf wellPlaced
-  place-break e = let b : class w r ≡ break = by-detail 0 e in rw (b, wellPlaced)
+  unfolding classOf
+  place-break e = sym (well-break w r (by-detail 0 e))
 
   pub place-continue : d ≡ 1 → isSome (innermost w isLoop r) ≡ wellPlaced w r
-  unfolding classOf wellPlaced
-  place-continue e = let b : class w r ≡ continue = by-detail 1 e in rw (b, wellPlaced, b)
+  unfolding classOf
+  place-continue e = sym (well-continue w r (by-detail 1 e))
 
   pub place-fallthrough : d ≡ 3 → endsCase w r ≡ wellPlaced w r
-  unfolding classOf wellPlaced
-  place-fallthrough e = let b : class w r ≡ fallthrough = by-detail 3 e in rw (b, wellPlaced, b, b)
+  unfolding classOf
+  place-fallthrough e = sym (well-fallthrough w r (by-detail 3 e))
 
   pub statement-fallthrough : d ≡ 3 → isStatement (class w r) ≡ true
   unfolding classOf
   statement-fallthrough e = let b : class w r ≡ fallthrough = by-detail 3 e in rw b
 
   pub place-goto : NoneOf (3 ∷ 1 ∷ 0 ∷ []) d → true ≡ wellPlaced w r
-  unfolding classOf wellPlaced
+  unfolding classOf
   place-goto n =
       let s = allowed-small (kind w r) (detail w r) a .1 in
       let x = n .1 in
@@ -48,7 +49,7 @@ module _ (w : List ℕ) (r d : ℕ) (a : detailAllowed (kind w r) (detail w r) �
       let z = n .0 .0 .1 in
       let e : d ≡ 2 = omega arith in
       let b : class w r ≡ goto = by-detail 2 e in
-      rw (b, wellPlaced, b, b)
+      sym (well-other w r (rw b) (rw b) (rw b))
 
 -- ---- every row
 other-class : (c d : Class) → isBranch c ≡ false → isBranch d ≡ true → oneOf (d ∷ []) c ≡ false
@@ -60,10 +61,9 @@ module _ (w : List ℕ) (r : ℕ) where
   well-not-bad t = rw (t, badlyPlaced, and-false)
 
   pub no-branch-not-bad : isBranch (class w r) ≡ false → false ≡ badlyPlaced w r
-  unfolding wellPlaced
   no-branch-not-bad b =
       let c = class w r in
-      well-not-bad (rw (other-class c break b refl, wellPlaced, other-class c continue b refl, other-class c fallthrough b refl))
+      well-not-bad (well-other w r (other-class c break b refl) (other-class c continue b refl) (other-class c fallthrough b refl))
 
   pub other-not-bad : (k : ℕ) → k ≡ kind w r → detailAllowed (kind w r) (detail w r) ≡ true → (k ≡ 11 → ⊥) → false ≡ badlyPlaced w r
   other-not-bad k e a n = no-branch-not-bad (sym (by-words isBranch w r k (eqb k 11) (own-branch w r) e a (λ d x. kind-jump k d x)) ∙ ne-eqb k 11 n)

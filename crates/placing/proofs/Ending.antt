@@ -9,7 +9,6 @@ use Prim.Native.Nat.{ℕ, _+_, _-_, _≤_, _<_}
 use native.Mathlib.Omega.{arith}
 use native.Mathlib.Decide.{ℕ-discrete}
 use native.Mathlib.Numerals.{add-one}
-use lib.Dec.{eqb}
 use lib.ListN.{getD}
 use borrow.Author.Tests.{eqb-true, eq-eqb, lt-ltb, le-ltb}
 use Rattle.rules.specs.Rows.{rowCount, kind, detail, end}
@@ -19,29 +18,23 @@ use Rattle.rules.specs.Labels.{word}
 use Rattle.rules.specs.Placing.{endsCase}
 use Rattle.rules.proofs.Test.{case-of, clash}
 use Rattle.rules.proofs.Every.{is-one}
-use Rattle.rules.proofs.ByKind.{kind-case, kind-empty}
 use Rattle.rules.proofs.Around.{AllEmpty, innermost-found, only-empty}
-use Rattle.rules.proofs.Lists.{own-case, own-empty, by-words, statement-list, case-home}
+use Rattle.rules.proofs.Lists.{row-empty, statement-list, case-home}
+use Rattle.rules.proofs.Placed.{ends-none, ends-by}
 use Rattle.placing.specs.Reach.{FormedLists}
 
 -- ---- Empty rows, by their kind
 module _ (w : List ℕ) (r k : ℕ) (e : k ≡ kind w r) (a : detailAllowed (kind w r) (detail w r) ≡ true) where
-  is-empty : eqb k 2 ≡ oneOf (empty ∷ []) (class w r)
-  is-empty = by-words (oneOf (empty ∷ [])) w r k (eqb k 2) (own-empty w r) e a (λ d x. kind-empty k d x)
-
   pub empty-row : k ≡ 2 → class w r ≡ empty
-  empty-row z = is-one (class w r) empty (sym is-empty ∙ eq-eqb k 2 z)
+  empty-row z = is-one (class w r) empty (sym (row-empty w r k e a) ∙ eq-eqb k 2 z)
 
   pub not-only-empty : (c x : ℕ) → (k ≡ 2 → ⊥) → c ≤ r → r < x → false ≡ onlyEmpty w c x
   not-only-empty c x n h l = case-of (onlyEmpty w c x)
       (λ t.
       let y : oneOf (empty ∷ []) (class w r) ≡ true = rw (only-empty w c x t r h l) in
-      let z = is-empty ∙ y in
+      let z = row-empty w r k e a ∙ y in
       absurd (n (eqb-true k 2 z)))
       (λ f. sym f)
-
-  pub case-row : eqb k 14 ≡ isCase (class w r)
-  case-row = by-words isCase w r k (eqb k 14) (own-case w r) e a (λ d x. kind-case k d x)
 
 pub all-more : (w : List ℕ) (c r : ℕ) → AllEmpty w c r → class w r ≡ empty → AllEmpty w c (r + 1)
 all-more w c r a e k h l = elim (ℕ-discrete k r) [ yes y ↦ rw y e | no n ↦ a k h (omega arith) ]
@@ -77,31 +70,25 @@ module _ {w l : List ℕ} (f : FormedLists w l) (r : ℕ) (h : r < rowCount w) w
 
 -- ---- what ends a Case
 module _ (w : List ℕ) (r : ℕ) where
-  no-next : nextCase w r ≡ none → false ≡ endsCase w r
-  unfolding endsCase
-  no-next e = rw (e, endsCase)
-
   pub no-list : listOf w r ≡ none → false ≡ endsCase w r
   unfolding nextCase
-  no-list f = no-next (rw (f, nextCase))
+  no-list f = sym (ends-none w r (rw (f, nextCase)))
 
   module _ (c : ℕ) (f : listOf w r ≡ some c) where
     pub no-case : isCase (class w c) ≡ false → false ≡ endsCase w r
     unfolding nextCase
-    no-case t = no-next (rw (f, nextCase, t))
+    no-case t = sym (ends-none w r (rw (f, nextCase, t)))
 
     module _ (t : isCase (class w c) ≡ true) where
       pub no-home : innermost w (oneOf (caseBlock ∷ [])) c ≡ none → false ≡ endsCase w r
       unfolding nextCase
-      no-home g = no-next (rw (f, nextCase, t, g))
+      no-home g = sym (ends-none w r (rw (f, nextCase, t, g)))
 
       module _ (s : ℕ) (g : innermost w (oneOf (caseBlock ∷ [])) c ≡ some s) where
         pub last-case : end w s ≤ end w c → false ≡ endsCase w r
         unfolding nextCase
-        last-case l = no-next (rw (f, nextCase, t, g, le-ltb (end w c) (end w s) l))
+        last-case l = sym (ends-none w r (rw (f, nextCase, t, g, le-ltb (end w c) (end w s) l)))
 
         pub by-rest : end w c < end w s → onlyEmpty w (r + 1) (end w c) ≡ endsCase w r
-        unfolding nextCase endsCase
-        by-rest l =
-            let n : nextCase w r ≡ some (end w c) = rw (f, nextCase, t, g, lt-ltb (end w c) (end w s) l) in
-            rw (add-one, n, endsCase, f)
+        unfolding nextCase
+        by-rest l = rw (add-one, ends-by w r (end w c) c (rw (f, nextCase, t, g, lt-ltb (end w c) (end w s) l)) f)

@@ -1,27 +1,27 @@
 -- No branch is stuck where all labelled branches are lawful and the others are well placed, and where each of them goes:
 -- the target of a labelled break has the break inside a Block of it, so its statement is around the break, carries the label, and is what the break refers to.
 -- Assumes nothing.
-use mathlib.Core.Path.{_≡_, refl}
+use mathlib.Core.Path.{_≡_, refl, sym, _∙_}
 use mathlib.Core.Bool.{Bool, true, false, _&&_}
 use mathlib.Core.List.{List, [], _∷_}
 use mathlib.Core.Option.{none, some}
 use Prim.Native.Nat.{ℕ, suc, _<_}
 use native.Mathlib.Omega.{arith}
 use lib.Dec.{ltb, eqb}
-use borrow.Author.Tests.{ltb-true, eqb-true, eqb-false, eq-eqb, not-false}
+use borrow.Author.Tests.{ltb-true, eqb-true, eqb-false}
 use Rattle.rules.specs.Scan.{lowest, highest}
-use Rattle.rules.specs.Rows.{rowCount, name, end, Child}
-use Rattle.rules.specs.Class.{Class, labeled, break, continue, goto, fallthrough, caseBlock, oneOf, isBranch, isBreakable, isLoop, isCase, class}
+use Rattle.rules.specs.Rows.{rowCount, name, end}
+use Rattle.rules.specs.Class.{Class, labeled, break, continue, goto, fallthrough, oneOf, isBranch, isBreakable, isLoop, isCase, class}
 use Rattle.rules.specs.Body.{Body}
-use Rattle.rules.specs.Scope.{isBlock, isList, around, innermost, listOf, nextCase, onlyEmpty}
-use Rattle.rules.specs.Labels.{isSome, needs, labels, inBlockOf, target}
-use Rattle.rules.specs.Placing.{endsCase, wellPlaced, badlyPlaced, placing}
+use Rattle.rules.specs.Scope.{isBlock, isList, around, innermost, listOf, nextCase}
+use Rattle.rules.specs.Labels.{needs, labels, inBlockOf, target}
+use Rattle.rules.specs.Placing.{placing}
 use Rattle.rules.specs.Verdict.{labelOn, refersTo}
 use Rattle.rules.specs.Runner.{breakTo, continueTo, gotoTo}
 use Rattle.rules.specs.Law.{LawfulTarget, Lawful, lawful-break, lawful-continue, lawful-goto, AllLawful}
 use Rattle.rules.proofs.Test.{case-of, case-found, clash, and-true}
-use Rattle.rules.proofs.Scan.{lowest-none, highest-found, highest-none}
-use Rattle.rules.proofs.Every.{every, is-one}
+use Rattle.rules.proofs.Scan.{highest-found, highest-none}
+use Rattle.rules.proofs.Every.{every}
 use Rattle.rules.proofs.Nesting.{item-next}
 use Rattle.rules.proofs.ClassRules.{class-rule}
 use Rattle.rules.proofs.Around.{around-true, true-around, Innermost, innermost-found, next-case}
@@ -31,8 +31,9 @@ use Rattle.rules.proofs.GotoRows.{goto-label}
 use Rattle.rules.proofs.BreakRows.{is-target}
 use Rattle.rules.proofs.FromLawful.{goto-bound}
 use Rattle.rules.proofs.Terminating.{label-on, refers-innermost, refers-labelled}
-use Rattle.rules.proofs.Lists.{case-parent, parent-innermost}
-use Rattle.rules.proofs.Final.{child-in, parent-in}
+use Rattle.rules.proofs.Lists.{case-block}
+use Rattle.rules.proofs.Placed.{placed-well, well-break, well-continue, well-fallthrough, ends-none}
+use Rattle.rules.proofs.Final.{child-in}
 
 -- ---- rules of the classes
 branch : (c : Class) → oneOf (break ∷ continue ∷ []) c ≡ true → isBranch c ≡ true
@@ -89,36 +90,19 @@ module _ {w p b : List ℕ} (body : Body w p b) where
 
   -- ---- a fallthrough
 
-  -- a Case's parent is the Block of its switch, and the innermost such Block around it
-  case-home : (c k : ℕ) → c < rowCount w → isCase (class w c) ≡ true → innermost w (oneOf (caseBlock ∷ [])) c ≡ some k
-      → (class w k ≡ caseBlock) × (k < rowCount w) × Child w k c
-  case-home c k i t e =
-      let home = innermost-found w (oneOf (caseBlock ∷ [])) c k e in
-      let (j, q, m, d) = parent-in body c i (omega (arith, home .before)) in
-      let u = case-parent (class w j) (class w c) t (body .child-fits j c q d) in
-      let f = parent-innermost body (oneOf (caseBlock ∷ [])) j c q d u in
-      let same : j ≡ k = cc in
-      rw (← same) (is-one (class w j) caseBlock u, q, d)
-
-  -- so the next Case is an item of it too
+  -- the next Case is an item of the Block of its switch, as the Case is
   pub next-case-row : (g n : ℕ) → g < rowCount w → nextCase w g ≡ some n → (n < rowCount w) × (isCase (class w n) ≡ true)
   unfolding listOf
   next-case-row g n i e =
       let c = next-case w g n e in
       let inner = innermost-found w isList g (c .clause) (c .listed) in
-      let (k, q, d) = case-home (c .clause) (c .home) (omega (arith, i, inner .before)) (c .case-row) (c .homed) in
+      let (k, q, d) = case-block body (c .clause) (c .home) (omega (arith, i, inner .before)) (c .case-row) (c .homed) in
       let d′ = item-next d (c .more) in
       let fit : isCase (class w (end w (c .clause))) ≡ true = rw k at (body .child-fits (c .home) (end w (c .clause)) q d′) in
       rw (c .next) (child-in body (c .home) q d′, fit)
 
   -- ---- no branch is stuck
   module _ (lawful : AllLawful w p b) (placed : placing w ≡ none) where
-    well-placed : (g : ℕ) → g < rowCount w → name w g ≡ 0 → wellPlaced w g ≡ true
-    unfolding placing badlyPlaced
-    well-placed g i n =
-        let f = lowest-none (badlyPlaced w) (rowCount w) g placed i in
-        not-false (wellPlaced w g) (rw (eq-eqb (name w g) 0 n) at f)
-
     named : (g : ℕ) → eqb (name w g) 0 ≡ false → 0 < name w g
     named g z = omega (arith, eqb-false (name w g) 0 z)
 
@@ -138,11 +122,10 @@ module _ {w p b : List ℕ} (body : Body w p b) where
         from-lawful (lawful-goto e t) = absurd (let z : false ≡ true = rw e at c in clash (cc))
 
     breaks-out : (g : ℕ) → g < rowCount w → class w g ≡ break → (s : ℕ) × (s < g) × (refersTo w p b g s ≡ true)
-    unfolding wellPlaced
     breaks-out g i e = case-of (eqb (name w g) 0)
         (λ z.
         let n = eqb-true (name w g) 0 z in
-        let t : isSome (innermost w isBreakable g) ≡ true = rw (e, wellPlaced) at (well-placed g i n) in
+        let t = sym (well-break w g e) ∙ placed-well w placed g i n in
         let (s, f) = is-some (innermost w isBreakable g) t in
         (s, innermost-found w isBreakable g s f .before, refers-innermost w p b g s n f))
         (λ z.
@@ -158,10 +141,10 @@ module _ {w p b : List ℕ} (body : Body w p b) where
         case-found (breakTo w p b g) (λ k f. (k, f)) (λ f. absurd (let z = highest-none (refersTo w p b g) g s f m in clash (cc)))
 
     pub continues : (g : ℕ) → g < rowCount w → class w g ≡ continue → (s : ℕ) × (continueTo w p b g ≡ some s)
-    unfolding continueTo wellPlaced
+    unfolding continueTo
     continues g i e = case-of (eqb (name w g) 0)
         (λ z.
-        let t : isSome (innermost w isLoop g) ≡ true = rw (e, wellPlaced, e) at (well-placed g i (eqb-true (name w g) 0 z)) in
+        let t = sym (well-continue w g e) ∙ placed-well w placed g i (eqb-true (name w g) 0 z) in
         let (s, f) = is-some (innermost w isLoop g) t in
         (s, rw (z, continueTo) f))
         (λ z.
@@ -177,12 +160,10 @@ module _ {w p b : List ℕ} (body : Body w p b) where
     gotos g i e = goto-bound w p b body lawful g i e
 
     pub falls : (g : ℕ) → g < rowCount w → class w g ≡ fallthrough → (s : ℕ) × (nextCase w g ≡ some s)
-    unfolding wellPlaced endsCase
     falls g i e = case-of (eqb (name w g) 0)
         (λ z.
-        let t : endsCase w g ≡ true = rw (e, wellPlaced, e, e) at (well-placed g i (eqb-true (name w g) 0 z)) in
-        is-some (nextCase w g)
-        (and-true (isSome (nextCase w g)) (elim (listOf w g) [ none ↦ false | some c ↦ onlyEmpty w (suc g) (end w c) ]) t .0))
+        let t = sym (well-fallthrough w g e) ∙ placed-well w placed g i (eqb-true (name w g) 0 z) in
+        case-found (nextCase w g) (λ n f. (n, f)) (λ f. let x = ends-none w g f in absurd (clash (cc))))
         (λ z. absurd (from-lawful (lawful .destinations g i (rw e) (named g z))))
       where
         from-lawful : Lawful w p b g → ⊥

@@ -41,6 +41,7 @@ pub mod Ends
 pub mod Final
 pub mod Onward
 pub mod Lists
+pub mod Placed
 pub mod TallyBodies
 pub mod Tally
 pub mod TallyUsed

@@ -18,8 +18,8 @@ use Rattle.rules.specs.Scope.{isList, holdsItems, around, innermost, lis
 use Rattle.rules.specs.Body.{Body, fits}
 use Rattle.rules.proofs.Test.{case-of, case-found, clash, and-true}
 use Rattle.rules.proofs.Scan.{none-highest, found-highest}
-use Rattle.rules.proofs.Every.{every, same, same-eq, classAt, of-classes}
-use Rattle.rules.proofs.ByKind.{kind-jump}
+use Rattle.rules.proofs.Every.{every, same, same-eq, classAt, of-classes, is-one}
+use Rattle.rules.proofs.ByKind.{kind-case, kind-empty, kind-jump}
 use Rattle.rules.proofs.Classes.{no-block}
 use Rattle.rules.proofs.Nesting.{item-before, item-from, child-around, ends-before}
 use Rattle.rules.proofs.ClassRules.{class-rule, child-rule, parent-rule}
@@ -65,7 +65,7 @@ module _ (w : List ℕ) (r : ℕ) where
   unfolding every lowest
   own-case = own-words isCase refl w r
 
-  pub own-empty : oneOf (empty ∷ []) (class w r) ≡ oneOf (empty ∷ []) (base w r)
+  own-empty : oneOf (empty ∷ []) (class w r) ≡ oneOf (empty ∷ []) (base w r)
   unfolding every lowest
   own-empty = own-words (oneOf (empty ∷ [])) refl w r
 
@@ -76,6 +76,13 @@ unfolding base
 by-words Q w r k t e i a h =
     let b : detailAllowed k (detail w r) ≡ true = cc in
     h (detail w r) b ∙ ap (λ (n : ℕ). Q (classOf n (detail w r))) i ∙ sym e
+
+module _ (w : List ℕ) (r k : ℕ) (e : k ≡ kind w r) (a : detailAllowed (kind w r) (detail w r) ≡ true) where
+  pub row-empty : eqb k 2 ≡ oneOf (empty ∷ []) (class w r)
+  row-empty = by-words (oneOf (empty ∷ [])) w r k (eqb k 2) (own-empty w r) e a (λ d x. kind-empty k d x)
+
+  pub row-case : eqb k 14 ≡ isCase (class w r)
+  row-case = by-words isCase w r k (eqb k 14) (own-case w r) e a (λ d x. kind-case k d x)
 
 -- ---- rules of the classes
 list-holds : (c : Class) → isList c ≡ true → holdsItems c ≡ true
@@ -94,7 +101,7 @@ clause-no-statement : (q c : Class) → holdsClauses q ≡ true → fits q c ≡
 unfolding every lowest
 clause-no-statement q c t u = not-true (isStatement c) (child-rule holdsClauses (λ c. not (isStatement c)) refl q c t u)
 
-pub case-parent : (q c : Class) → isCase c ≡ true → fits q c ≡ true → oneOf (caseBlock ∷ []) q ≡ true
+case-parent : (q c : Class) → isCase c ≡ true → fits q c ≡ true → oneOf (caseBlock ∷ []) q ≡ true
 unfolding every lowest
 case-parent = parent-rule isCase (oneOf (caseBlock ∷ [])) refl
 
@@ -172,3 +179,14 @@ module _ {w p b : List ℕ} (body : Body w p b) where
       let (j, q, m, d) = parent-in body c i h in
       let u = case-parent (class w j) (class w c) t (body .child-fits j c q d) in
       parent-innermost (oneOf (caseBlock ∷ [])) j c q d u ∙ sym (parent-innermost holdsItems j c q d (home-holds (class w j) u))
+
+  -- which is its parent
+  pub case-block : (c s : ℕ) → c < rowCount w → isCase (class w c) ≡ true → innermost w (oneOf (caseBlock ∷ [])) c ≡ some s
+      → (class w s ≡ caseBlock) × (s < rowCount w) × Child w s c
+  case-block c s i t e =
+      let home = innermost-found w (oneOf (caseBlock ∷ [])) c s e in
+      let (j, q, m, d) = parent-in body c i (omega (arith, home .before)) in
+      let u = case-parent (class w j) (class w c) t (body .child-fits j c q d) in
+      let f = parent-innermost (oneOf (caseBlock ∷ [])) j c q d u in
+      let same : j ≡ s = cc in
+      rw (← same) (is-one (class w j) caseBlock u, q, d)

@@ -15,7 +15,8 @@ use Rattle.rules.specs.Class.{caseBlock, oneOf, isCase, class}
 use Rattle.rules.specs.Scope.{innermost, listOf, onlyEmpty}
 use Rattle.rules.specs.Labels.{word}
 use Rattle.rules.proofs.Around.{innermost-found}
-use Rattle.placing.proofs.Ending.{case-row, row-none, row-some, list-word, list-before, home-word, no-list, no-case, no-home, last-case, by-rest}
+use Rattle.rules.proofs.Lists.{row-case}
+use Rattle.placing.proofs.Ending.{row-none, row-some, list-word, list-before, home-word, no-list, no-case, no-home, last-case, by-rest}
 use Rattle.placing.proofs.ends_case.Statement.{statement}
 use Rattle.placing.proofs.ends_case.Tie as tie
 
@@ -43,7 +44,7 @@ list-row c = omega (arith, start (c .before) .pre .1 .0, list-before (start (c .
 
 -- the list's kind says whether it is a Case
 case-is : (c : tie.After-kind) → eqb (c .kind .result) 14 ≡ isCase (class (rows (c .before .before)) (list (c .before .before)))
-case-is c = case-row _ _ _ (c .kind .ensures) (start (c .before .before) .pre .0 .formed .2 .details _ (list-row (c .before)))
+case-is c = row-case _ _ _ (c .kind .ensures) (start (c .before .before) .pre .0 .formed .2 .details _ (list-row (c .before)))
 
 is-case : (c : tie.Else2) → isCase (class (rows (c .before .before .before)) (list (c .before .before .before))) ≡ true
 is-case c = sym (case-is (c .before)) ∙ eq-eqb _ 14 (c .if2 .left)
