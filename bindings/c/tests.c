@@ -263,6 +263,17 @@ static void test_placing_and_verdict(void) {
                                  11, 3, 50, 0, 1),
                            NO_WORDS, BYTES("")},
              (struct answer){NO_WORDS, WORDS(0, 0, 0, 0, 0), 5, 1});
+    /* switch { case a: fallthrough; default: }, and the same as a type switch */
+    answered(__LINE__,
+             (struct body){WORDS(12, 0, 10, 0, 6, 15, 0, 20, 0, 5, 12, 0, 30, 0, 4, 14, 0, 40, 0, 2,
+                                 11, 3, 50, 0, 1, 14, 1, 60, 0, 1),
+                           NO_WORDS, BYTES("")},
+             (struct answer){NO_WORDS, WORDS(0, 0, 0, 0, 0, 0), 0, 0});
+    answered(__LINE__,
+             (struct body){WORDS(12, 0, 10, 0, 6, 16, 0, 20, 0, 5, 12, 0, 30, 0, 4, 14, 0, 40, 0, 2,
+                                 11, 3, 50, 0, 1, 14, 1, 60, 0, 1),
+                           NO_WORDS, BYTES("")},
+             (struct answer){NO_WORDS, WORDS(0, 0, 0, 0, 0, 0), 5, 0});
 }
 
 /* Rows of a Block: Empty items, or Blocks inside each other. */

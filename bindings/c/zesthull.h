@@ -23,8 +23,8 @@
 extern "C" {
 #endif
 
-/* 0.11.0: major * 1,000,000 + minor * 1,000 + patch. */
-#define ZESTHULL_VERSION 11000
+/* 0.12.0: major * 1,000,000 + minor * 1,000 + patch. */
+#define ZESTHULL_VERSION 12000
 
 /* In the order in which they are tested: 10 comes after 5 and before 6. */
 enum zesthull_refusals {

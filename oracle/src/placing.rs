@@ -1,5 +1,5 @@
-//! The placing call of document 01, read plainly: a walk over the tree that
-//! knows the rows around each row.
+//! The placing call of document 01, with request U5 of document 02, read
+//! plainly: a walk over the tree that knows the rows around each row.
 
 use crate::{branch, kind, Body};
 
@@ -36,7 +36,7 @@ fn well_placed(body: &Body, row: usize, around: &[usize]) -> bool {
 }
 
 /// Whether a row, its labels included, is the last non-Empty item of a Case
-/// that isn't the last of its switch.
+/// that isn't the last of its switch, which is no type switch.
 fn ends_a_case(body: &Body, row: usize, around: &[usize]) -> bool {
     let (mut item, mut around) = (row, around);
     while let [outer @ .., label] = around {
@@ -46,11 +46,12 @@ fn ends_a_case(body: &Body, row: usize, around: &[usize]) -> bool {
         (item, around) = (*label, outer);
     }
     match *around {
-        [.., block, case] if body.rows[case][0] == kind::CASE => {
+        [.., switch, block, case] if body.rows[case][0] == kind::CASE => {
             let empty = |row: usize| body.rows[row][0] == kind::EMPTY;
             let last_item = body.children(case).filter(|&row| !empty(row)).last();
             let last_case = body.children(block).last();
-            last_item == Some(item) && last_case != Some(case)
+            let expression = body.rows[switch][0] == kind::SWITCH;
+            last_item == Some(item) && last_case != Some(case) && expression
         }
         _ => false,
     }

@@ -289,24 +289,22 @@ fn many_clauses() {
 /// Into the next Case, its labels and the Empty items after it left out.
 #[test]
 fn fallthroughs() {
-    for kind in [SWITCH, TYPE_SWITCH] {
-        // switch { case a: goto L; L: fallthrough; ; case b: f(); default: }
-        let words = rows(&[
-            [BLOCK, 0, 0, 11], [kind, 0, 0, 10], [BLOCK, 0, 0, 9], [CASE, 0, 0, 5],
-            [BRANCH, GOTO, 1, 1], [LABELED, 0, 1, 2], [BRANCH, FALLTHROUGH, 0, 1], [EMPTY, 0, 0, 1],
-            [CASE, 0, 0, 2], [EXPR, 0, 0, 1], [CASE, 1, 0, 1],
-        ]);
-        let ways = ["0 1* 3 4 5 6 8 9 brace", "0 1* 8 9 brace", "0 1* 10 brace"];
-        expect_ways(&words, &ways);
-        // for c { switch { case a: fallthrough; case b: fallthrough; case c: } }
-        let words = rows(&[
-            [BLOCK, 0, 0, 10], [FOR, 1, 0, 9], [BLOCK, 0, 0, 8], [kind, 0, 0, 7], [BLOCK, 0, 0, 6],
-            [CASE, 0, 0, 2], [BRANCH, FALLTHROUGH, 0, 1], [CASE, 0, 0, 2],
-            [BRANCH, FALLTHROUGH, 0, 1], [CASE, 0, 0, 1],
-        ]);
-        expect_route(&words, &[1, 0, 0], "0 1* 2 3* 5 6 7 8 9 1* brace");
-        expect_route(&words, &[1, 3, 1, 1], "0 1* 2 3* 1* 2 3* 7 8 9 1*");
-    }
+    // switch { case a: goto L; L: fallthrough; ; case b: f(); default: }
+    let words = rows(&[
+        [BLOCK, 0, 0, 11], [SWITCH, 0, 0, 10], [BLOCK, 0, 0, 9], [CASE, 0, 0, 5],
+        [BRANCH, GOTO, 1, 1], [LABELED, 0, 1, 2], [BRANCH, FALLTHROUGH, 0, 1], [EMPTY, 0, 0, 1],
+        [CASE, 0, 0, 2], [EXPR, 0, 0, 1], [CASE, 1, 0, 1],
+    ]);
+    let ways = ["0 1* 3 4 5 6 8 9 brace", "0 1* 8 9 brace", "0 1* 10 brace"];
+    expect_ways(&words, &ways);
+    // for c { switch { case a: fallthrough; case b: fallthrough; case c: } }
+    let words = rows(&[
+        [BLOCK, 0, 0, 10], [FOR, 1, 0, 9], [BLOCK, 0, 0, 8], [SWITCH, 0, 0, 7], [BLOCK, 0, 0, 6],
+        [CASE, 0, 0, 2], [BRANCH, FALLTHROUGH, 0, 1], [CASE, 0, 0, 2],
+        [BRANCH, FALLTHROUGH, 0, 1], [CASE, 0, 0, 1],
+    ]);
+    expect_route(&words, &[1, 0, 0], "0 1* 2 3* 5 6 7 8 9 1* brace");
+    expect_route(&words, &[1, 3, 1, 1], "0 1* 2 3* 1* 2 3* 7 8 9 1*");
 }
 
 /// An unlabelled break leaves the innermost statement that it can leave, an unlabelled continue goes on
@@ -460,13 +458,19 @@ fn at_the_limits() {
 /// 8: a fault on the sheet or a row badly placed, be it on the way or not, whatever is chosen.
 #[test]
 fn faulty_bodies() {
-    let faulty: [(&str, &[[u32; 4]]); 7] = [
+    // switch x.(type) { case a: fallthrough; default: }
+    let in_type_switch = [
+        [TYPE_SWITCH, 0, 0, 5], [BLOCK, 0, 0, 4], [CASE, 0, 0, 2], [BRANCH, FALLTHROUGH, 0, 1],
+        [CASE, 1, 0, 1],
+    ];
+    let faulty: [(&str, &[[u32; 4]]); 8] = [
         ("L: return", &[[LABELED, 0, 1, 2], [RETURN, 0, 0, 1]]),
         ("goto L", &[[BRANCH, GOTO, 1, 1]]),
         ("break L", &[[BRANCH, BREAK, 1, 1]]),
         ("return; break", &[[RETURN, 0, 0, 1], [BRANCH, BREAK, 0, 1]]),
         ("continue", &[[BRANCH, CONTINUE, 0, 1]]),
         ("fallthrough", &[[BRANCH, FALLTHROUGH, 0, 1]]),
+        ("fallthrough in a type switch", &in_type_switch),
         ("goto L; break", &[[BRANCH, GOTO, 1, 1], [BRANCH, BREAK, 0, 1]]),
     ];
     for (text, items) in faulty {

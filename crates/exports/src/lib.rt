@@ -269,7 +269,7 @@ pub extern "C" fn zesthull_name(
 // The version of the calls: this is its one place. CHANGELOG.md says what each version changed.
 const MAJOR: u32 = 0;
 
-const MINOR: u32 = 11;
+const MINOR: u32 = 12;
 
 const PATCH: u32 = 0;
 

@@ -1,26 +1,26 @@
 -- Where a fallthrough ends a Case, read from the words that name each row's list:
--- its list is the innermost row around it that holds items, and so is the Block around a Case.
+-- its list is the innermost row around it that holds items, and so is the Block around a Case, right before which the switch is.
 -- Assumes nothing.
 use mathlib.Core.Path.{_≡_, refl, sym, _∙_, ap}
-use mathlib.Core.Bool.{true, false}
+use mathlib.Core.Bool.{Bool, true, false, _&&_}
 use mathlib.Core.List.{List, [], _∷_}
 use mathlib.Core.Option.{Option, none, some}
-use Prim.Native.Nat.{ℕ, _+_, _-_, _≤_, _<_}
+use Prim.Native.Nat.{ℕ, suc, _+_, _-_, _≤_, _<_}
 use native.Mathlib.Omega.{arith}
 use native.Mathlib.Decide.{ℕ-discrete}
 use native.Mathlib.Numerals.{add-one}
 use lib.ListN.{getD}
 use borrow.Author.Tests.{eqb-true, eq-eqb, lt-ltb, le-ltb}
 use Rattle.rules.specs.Rows.{rowCount, kind, detail, end}
-use Rattle.rules.specs.Class.{empty, caseBlock, oneOf, isCase, isStatement, detailAllowed, class}
+use Rattle.rules.specs.Class.{empty, caseBlock, switch, oneOf, isSwitch, isCase, isStatement, detailAllowed, class}
 use Rattle.rules.specs.Scope.{isList, innermost, listOf, onlyEmpty, nextCase}
 use Rattle.rules.specs.Labels.{word}
 use Rattle.rules.specs.Placing.{endsCase}
 use Rattle.rules.proofs.Test.{case-of, clash}
 use Rattle.rules.proofs.Every.{is-one}
 use Rattle.rules.proofs.Around.{AllEmpty, innermost-found, only-empty}
-use Rattle.rules.proofs.Lists.{row-empty, statement-list, case-home}
-use Rattle.rules.proofs.Placed.{ends-none, ends-by}
+use Rattle.rules.proofs.Lists.{row-empty, statement-list, case-home, case-switch}
+use Rattle.rules.proofs.Placed.{ends-none, ends-by, in-switch}
 use Rattle.placing.specs.Reach.{FormedLists}
 
 -- ---- Empty rows, by their kind
@@ -68,6 +68,14 @@ module _ {w l : List ℕ} (f : FormedLists w l) (r : ℕ) (h : r < rowCount w) w
       ] in
       e ∙ f .listed r h ∙ ap word (sym (case-home body r h some-row t))
 
+  -- and right before that Block is its switch
+  pub switch-before : (u : ℕ) → isCase (class w r) ≡ true → innermost w (oneOf (caseBlock ∷ [])) r ≡ some (u - 1)
+      → (2 ≤ u) × (innermost w isSwitch r ≡ some (u - 2))
+  switch-before u t e =
+      let (q, before, found) = case-switch (f .formed .2) r (u - 1) h t e in
+      let same : q ≡ u - 2 = omega arith in
+      (omega arith, found ∙ ap some same)
+
 -- ---- what ends a Case
 module _ (w : List ℕ) (r : ℕ) where
   pub no-list : listOf w r ≡ none → false ≡ endsCase w r
@@ -89,6 +97,15 @@ module _ (w : List ℕ) (r : ℕ) where
         unfolding nextCase
         last-case l = sym (ends-none w r (rw (f, nextCase, t, g, le-ltb (end w c) (end w s) l)))
 
-        pub by-rest : end w c < end w s → onlyEmpty w (r + 1) (end w c) ≡ endsCase w r
-        unfolding nextCase
-        by-rest l = rw (add-one, ends-by w r (end w c) c (rw (f, nextCase, t, g, lt-ltb (end w c) (end w s) l)) f)
+        module _ (l : end w c < end w s) (q : ℕ) (i : innermost w isSwitch c ≡ some q) where
+          by-switch : endsCase w r ≡ (oneOf (switch ∷ []) (class w q) && onlyEmpty w (suc r) (end w c))
+          unfolding nextCase
+          by-switch =
+              ends-by w r (end w c) c (rw (f, nextCase, t, g, lt-ltb (end w c) (end w s) l)) f
+              ∙ ap (λ (x : Bool). x && onlyEmpty w (suc r) (end w c)) (in-switch w c q i)
+
+          pub type-switch : oneOf (switch ∷ []) (class w q) ≡ false → false ≡ endsCase w r
+          type-switch n = rw (by-switch, n)
+
+          pub by-rest : oneOf (switch ∷ []) (class w q) ≡ true → onlyEmpty w (r + 1) (end w c) ≡ endsCase w r
+          by-rest y = rw (add-one, by-switch, y)

@@ -61,7 +61,7 @@ fn only_empty(rows: &[u32], from: usize, end: usize) -> bool
 }
 
 // Whether the fallthrough, its labels included, is the last non-Empty item of a Case that isn't the
-// last of its switch.
+// last of its switch, which is of kind 15. The switch is the row before its Block.
 fn ends_case(rows: &[u32], lists: &[u16], row: RowNumber) -> bool
     requires { ⌜ FormedLists (now rows) (now lists) ⌝ }
     requires { ⌜ (row .0 < rowCount (now rows)) × (isStatement (class (now rows) (row .0)) ≡ true) ⌝ }
@@ -83,6 +83,9 @@ fn ends_case(rows: &[u32], lists: &[u16], row: RowNumber) -> bool
     }
     let block_end = block - 1 + rows::size(rows, RowNumber(block - 1));
     if block_end <= case_end {
+        return false;
+    }
+    if rows::kind(rows, RowNumber(block - 2)) != kinds::SWITCH {
         return false;
     }
     only_empty(rows, r + 1, case_end)

@@ -8,8 +8,8 @@ use lib.Dec.{eqb}
 use lib.ListN.{getD}
 use borrow.Author.Tests.{eqb-true, ne-eqb}
 use Rattle.rules.specs.Scan.{lowest}
-use Rattle.rules.specs.Class.{Class, empty, block, if, ifElse, select, oneOf, isBranch, isSwitch, isLoop, isBreakable, isCase, isComm, isStatement}
-use Rattle.rules.specs.Class.{isDefault, detailAllowed, classOf}
+use Rattle.rules.specs.Class.{Class, empty, labeled, block, if, ifElse, switch, select, oneOf, isBranch, isSwitch, isLoop, isBreakable, isCase, isComm}
+use Rattle.rules.specs.Class.{isStatement, isDefault, detailAllowed, classOf}
 use Rattle.rules.specs.Scope.{holdsItems}
 use Rattle.rules.specs.Refusals.{Holding, nothing, statement, body, branches, statements, cases, comms, holding, mayHold}
 use Rattle.rules.proofs.Every.{every, same, same-eq, implies, implied}
@@ -71,6 +71,10 @@ module _ (k d : ℕ) (a : detailAllowed k d ≡ true) where
   unfolding every lowest detailAllowed classOf
   kind-switch = by-kind (among switches) isSwitch refl k d a
 
+  pub kind-expression-switch : eqb k 15 ≡ oneOf (switch ∷ []) (classOf k d)
+  unfolding every lowest detailAllowed classOf
+  kind-expression-switch = by-kind (λ j. eqb j 15) (oneOf (switch ∷ [])) refl k d a
+
   pub kind-select : eqb k 18 ≡ oneOf (select ∷ []) (classOf k d)
   unfolding every lowest detailAllowed classOf
   kind-select = by-kind (λ j. eqb j 18) (oneOf (select ∷ [])) refl k d a
@@ -78,6 +82,10 @@ module _ (k d : ℕ) (a : detailAllowed k d ≡ true) where
   pub kind-items : among (12 ∷ 14 ∷ 17 ∷ []) k ≡ holdsItems (classOf k d)
   unfolding every lowest detailAllowed classOf
   kind-items = by-kind (among (12 ∷ 14 ∷ 17 ∷ [])) holdsItems refl k d a
+
+  pub kind-labeled : eqb k 3 ≡ oneOf (labeled ∷ []) (classOf k d)
+  unfolding every lowest detailAllowed classOf
+  kind-labeled = by-kind (λ j. eqb j 3) (oneOf (labeled ∷ [])) refl k d a
 
   pub kind-empty : eqb k 2 ≡ oneOf (empty ∷ []) (classOf k d)
   unfolding every lowest detailAllowed classOf

@@ -42,6 +42,7 @@ pub mod Final
 pub mod Onward
 pub mod Lists
 pub mod Placed
+pub mod Fallthrough
 pub mod TallyBodies
 pub mod Tally
 pub mod TallyUsed
@@ -58,3 +59,4 @@ pub mod Inside
 pub mod WalkSteps
 pub mod Walking
 pub mod WalkUsed
+pub mod FallthroughUsed

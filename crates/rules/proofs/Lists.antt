@@ -1,5 +1,6 @@
 -- The list of a row, from the rows around it that hold items: for a statement the innermost of them is its list,
--- since the children of a switch's or Select's Block are clauses, which hold items themselves; and for a Case it is its parent, the Block of its switch.
+-- since the children of a switch's or Select's Block are clauses, which hold items themselves; and for a Case it is its parent, the Block of its switch,
+-- whose own parent, the row before it, is the innermost switch around the Case.
 -- Assumes nothing.
 use mathlib.Core.Path.{_≡_, refl, sym, _∙_, ap}
 use mathlib.Core.Bool.{Bool, true, false, _&&_, not}
@@ -11,20 +12,21 @@ use native.Mathlib.Decide.{ℕ-discrete}
 use lib.Dec.{eqb}
 use borrow.Author.Tests.{not-true}
 use Rattle.rules.specs.Scan.{lowest}
-use Rattle.rules.specs.Rows.{rowCount, kind, detail, Child}
-use Rattle.rules.specs.Class.{Class, empty, caseBlock, oneOf, isBranch, isBreakable, isLoop, isCase, isStatement, detailAllowed, classOf, following}
-use Rattle.rules.specs.Class.{base, class}
+use Rattle.rules.specs.Rows.{rowCount, kind, detail, end, Child}
+use Rattle.rules.specs.Class.{Class, empty, labeled, block, caseBlock, oneOf, isBranch, switch, typeSwitch, isSwitch, isBreakable, isLoop, isCase}
+use Rattle.rules.specs.Class.{isStatement, detailAllowed, classOf, following, base, class}
 use Rattle.rules.specs.Scope.{isList, holdsItems, around, innermost, listOf}
+use Rattle.rules.specs.Refusals.{body, holding}
 use Rattle.rules.specs.Body.{Body, fits}
 use Rattle.rules.proofs.Test.{case-of, case-found, clash, and-true}
 use Rattle.rules.proofs.Scan.{none-highest, found-highest}
 use Rattle.rules.proofs.Every.{every, same, same-eq, classAt, of-classes, is-one}
-use Rattle.rules.proofs.ByKind.{kind-case, kind-empty, kind-jump}
+use Rattle.rules.proofs.ByKind.{among, switches, kind-case, kind-switch, kind-expression-switch, kind-labeled, kind-empty, kind-jump}
 use Rattle.rules.proofs.Classes.{no-block}
 use Rattle.rules.proofs.Nesting.{item-before, item-from, child-around, ends-before}
-use Rattle.rules.proofs.ClassRules.{class-rule, child-rule, parent-rule}
+use Rattle.rules.proofs.ClassRules.{by-one, class-rule, child-rule, parent-rule}
 use Rattle.rules.proofs.Around.{around-true, true-around, Innermost, innermost-found, innermost-last, innermost-none}
-use Rattle.rules.proofs.Final.{parent-in}
+use Rattle.rules.proofs.Final.{only-item, parent-in}
 
 -- ---- tests that do not tell a Block of a switch or Select apart
 pub own-words : (P : Class → Bool) → every 23 (λ i. every 23 (λ j. same (P (following (classAt i) (classAt j))) (P (classAt j)))) ≡ true
@@ -65,6 +67,18 @@ module _ (w : List ℕ) (r : ℕ) where
   unfolding every lowest
   own-case = own-words isCase refl w r
 
+  own-switch : isSwitch (class w r) ≡ isSwitch (base w r)
+  unfolding every lowest
+  own-switch = own-words isSwitch refl w r
+
+  own-expression-switch : oneOf (switch ∷ []) (class w r) ≡ oneOf (switch ∷ []) (base w r)
+  unfolding every lowest
+  own-expression-switch = own-words (oneOf (switch ∷ [])) refl w r
+
+  own-labeled : oneOf (labeled ∷ []) (class w r) ≡ oneOf (labeled ∷ []) (base w r)
+  unfolding every lowest
+  own-labeled = own-words (oneOf (labeled ∷ [])) refl w r
+
   own-empty : oneOf (empty ∷ []) (class w r) ≡ oneOf (empty ∷ []) (base w r)
   unfolding every lowest
   own-empty = own-words (oneOf (empty ∷ [])) refl w r
@@ -81,8 +95,17 @@ module _ (w : List ℕ) (r k : ℕ) (e : k ≡ kind w r) (a : detailAllowed (kin
   pub row-empty : eqb k 2 ≡ oneOf (empty ∷ []) (class w r)
   row-empty = by-words (oneOf (empty ∷ [])) w r k (eqb k 2) (own-empty w r) e a (λ d x. kind-empty k d x)
 
+  pub row-labeled : eqb k 3 ≡ oneOf (labeled ∷ []) (class w r)
+  row-labeled = by-words (oneOf (labeled ∷ [])) w r k (eqb k 3) (own-labeled w r) e a (λ d x. kind-labeled k d x)
+
   pub row-case : eqb k 14 ≡ isCase (class w r)
   row-case = by-words isCase w r k (eqb k 14) (own-case w r) e a (λ d x. kind-case k d x)
+
+  pub row-switch : among switches k ≡ isSwitch (class w r)
+  row-switch = by-words isSwitch w r k (among switches k) (own-switch w r) e a (λ d x. kind-switch k d x)
+
+  pub row-expression-switch : eqb k 15 ≡ oneOf (switch ∷ []) (class w r)
+  row-expression-switch = by-words (oneOf (switch ∷ [])) w r k (eqb k 15) (own-expression-switch w r) e a (λ d x. kind-expression-switch k d x)
 
 -- ---- rules of the classes
 list-holds : (c : Class) → isList c ≡ true → holdsItems c ≡ true
@@ -108,6 +131,13 @@ case-parent = parent-rule isCase (oneOf (caseBlock ∷ [])) refl
 home-holds : (c : Class) → oneOf (caseBlock ∷ []) c ≡ true → holdsItems c ≡ true
 unfolding every lowest
 home-holds = class-rule (oneOf (caseBlock ∷ [])) holdsItems refl
+
+switch-parent : (q c : Class) → oneOf (caseBlock ∷ []) c ≡ true → fits q c ≡ true → isSwitch q ≡ true
+unfolding every lowest
+switch-parent = parent-rule (oneOf (caseBlock ∷ [])) isSwitch refl
+
+pub switch-body : (c : Class) → isSwitch c ≡ true → holding c ≡ body
+switch-body c t = by-one _ (switch ∷ typeSwitch ∷ []) c t (λ e. rw e) (λ e. rw e)
 
 -- ---- what is found
 module _ (w : List ℕ) (P : Class → Bool) (r : ℕ) where
@@ -190,3 +220,33 @@ module _ {w p b : List ℕ} (body : Body w p b) where
       let f = parent-innermost (oneOf (caseBlock ∷ [])) j c q d u in
       let same : j ≡ s = cc in
       rw (← same) (is-one (class w j) caseBlock u, q, d)
+
+  -- the row right before such a Block is its switch
+  pub block-switch : (s : ℕ) → s < rowCount w → class w s ≡ caseBlock → (q : ℕ) × (s ≡ suc q) × (end w s ≡ end w q) × (isSwitch (class w q) ≡ true)
+  block-switch s m k =
+      let some-row : 0 < s = elim (ℕ-discrete s 0) [
+        | yes z ↦ let x : caseBlock ≡ block = sym k ∙ rw z (body .root-class) in absurd (clash (cc))
+        | no n ↦ omega arith
+      ] in
+      let (q, l, h, x) = parent-in body s m some-row in
+      let u = switch-parent (class w q) (class w s) (rw k) (body .child-fits q s l x) in
+      let one = body .one-block q l (switch-body (class w q) u) .1 in
+      let same = only-item one x in
+      (q, same, ap (end w) same ∙ one, u)
+
+  -- and the innermost switch around each of its Cases
+  pub case-switch : (c s : ℕ) → c < rowCount w → isCase (class w c) ≡ true → innermost w (oneOf (caseBlock ∷ [])) c ≡ some s
+      → (q : ℕ) × (s ≡ suc q) × (innermost w isSwitch c ≡ some q)
+  case-switch c s i t e =
+      let (k, m, d) = case-block c s i t e in
+      let (q, same, ends, u) = block-switch s m k in
+      let from = item-from d in
+      let inside = item-before d in (
+        q,
+        same,
+        found-innermost w isSwitch c q (record { before = omega arith; reaches = omega arith; passes = u })
+            (λ j a n. elim (ℕ-discrete j s) [
+              | yes y ↦ let z : false ≡ true = rw (y, k) at (n .passes) in clash (cc)
+              | no x ↦ omega (arith, n .reaches, ends-before (body .sized) (body .child-within) (body .sized .within s m) d j (omega arith) (n .before))
+            ]),
+      )

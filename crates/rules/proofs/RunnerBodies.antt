@@ -17,8 +17,9 @@ use Rattle.rules.specs.Placing.{placing}
 use Rattle.rules.specs.Verdict.{verdict}
 use Rattle.rules.specs.Runner.{State, at, stopped, brace, choices, step, Walk, done, go, Route}
 use Rattle.rules.specs.Law.{Safe}
-use Rattle.rules.specs.Bodies.{pairs, bytes, body2, body7, body9, body10, body12, breakFromSwitch, gotoAndBack, fallIntoDefault, selectInLoop}
-use Rattle.rules.specs.Bodies.{pastSwitch, switchGoesOn, continueOuter, emptyDefault, breakOfTwo, continueOfTwo, emptyIf, gotoNowhere, forAlone}
+use Rattle.rules.specs.Bodies.{pairs, bytes, body2, body7, body9, body10, body12, breakFromSwitch, gotoAndBack, fallIntoDefault, fallInTypeSwitch}
+use Rattle.rules.specs.Bodies.{selectInLoop, pastSwitch, switchGoesOn}
+use Rattle.rules.specs.Bodies.{continueOuter, emptyDefault, breakOfTwo, continueOfTwo, emptyIf, gotoNowhere, forAlone}
 use Rattle.rules.proofs.Computed.{computed}
 use Rattle.rules.proofs.Test.{clash, and-true}
 use Rattle.rules.proofs.Steps.{OneWay, goto-binding}
@@ -77,6 +78,12 @@ goto-route = ((refl, refl, refl, refl), (refl, by-choices gotoAndBack (at 0) (0 
 pub fallthrough-route : Good fallIntoDefault × Route fallIntoDefault pairs bytes (at 0 ∷ at 1 ∷ at 3 ∷ at 4 ∷ at 5 ∷ at 6 ∷ stopped ∷ [])
 unfolding computed
 fallthrough-route = ((refl, refl, refl, refl), (refl, by-choices fallIntoDefault (at 0) (0 ∷ 0 ∷ 0 ∷ 0 ∷ 0 ∷ 0 ∷ []) refl))
+
+-- in a type switch the runner goes there, too, though the fallthrough is badly placed
+pub type-switch-route : Answers fallInTypeSwitch none [] true (some 4)
+    × Route fallInTypeSwitch pairs bytes (at 0 ∷ at 1 ∷ at 3 ∷ at 4 ∷ at 5 ∷ at 6 ∷ stopped ∷ [])
+unfolding computed
+type-switch-route = ((refl, refl, refl, refl), (refl, by-choices fallInTypeSwitch (at 0) (0 ∷ 0 ∷ 0 ∷ 0 ∷ 0 ∷ 0 ∷ []) refl))
 
 -- for { select { comm: return; comm: } }: twice round the loop by the Comm without items, then by the first Comm to the Return
 pub select-route : Good selectInLoop × Route selectInLoop pairs bytes

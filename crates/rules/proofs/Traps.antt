@@ -11,7 +11,7 @@ use Rattle.rules.specs.Labels.{Fault, fault, sheet, bindings}
 use Rattle.rules.specs.Placing.{placing}
 use Rattle.rules.specs.Verdict.{verdict}
 use Rattle.rules.specs.Bodies.{Entry, entry, rowWords, pairs, bytes, L, M, blank, Empty, Labeled, Expr, Define, Return, Break, Continue, Goto}
-use Rattle.rules.specs.Bodies.{Fallthrough, Block, If, IfElse, Case, Default, Switch, Comm, DefaultComm, Select, For, ForCond}
+use Rattle.rules.specs.Bodies.{Fallthrough, Block, If, IfElse, Case, Default, Switch, TypeSwitch, Comm, DefaultComm, Select, For, ForCond}
 use Rattle.rules.proofs.Computed.{computed}
 
 -- well-formed, with these codes on the sheet and this verdict
@@ -248,7 +248,7 @@ leavesSelect = Block 8 ∷ Select 7 ∷ Block 6 ∷ Comm 5 ∷ If 3 ∷ Block 2 
 pub clauses : Marks (Block 4 ∷ Switch 3 ∷ Block 2 ∷ Default 1 ∷ []) [] false
     × Marks (Block 7 ∷ Switch 6 ∷ Block 5 ∷ Default 2 ∷ Return ∷ Case 2 ∷ Return ∷ []) [] true
     × Marks (Block 5 ∷ Switch 4 ∷ Block 3 ∷ Case 2 ∷ Return ∷ []) [] false
-    × Marks (Block 5 ∷ entry 16 0 0 4 ∷ Block 3 ∷ Default 2 ∷ Return ∷ []) [] true
+    × Marks (Block 5 ∷ TypeSwitch 4 ∷ Block 3 ∷ Default 2 ∷ Return ∷ []) [] true
     × Marks leavesSwitch [] false
     × Marks (Block 5 ∷ Select 4 ∷ Block 3 ∷ Comm 2 ∷ Return ∷ []) [] true
     × Marks (Block 4 ∷ Select 3 ∷ Block 2 ∷ Comm 1 ∷ []) [] false
@@ -309,6 +309,41 @@ pub places : Places labelledOutside none
     × Places (Block 4 ∷ Expr ∷ Continue 0 ∷ Break 0 ∷ []) (some 2)
 unfolding computed
 places = ((refl, refl), (refl, refl), (refl, refl), (refl, refl), (refl, refl), (refl, refl), (refl, refl), (refl, refl))
+
+-- ---- fallthrough in a type switch
+
+-- switch x.(type) { case: fallthrough; ; default: }
+abbrev typeEmpty : List Entry
+typeEmpty = Block 7 ∷ TypeSwitch 6 ∷ Block 5 ∷ Case 3 ∷ Fallthrough ∷ Empty ∷ Default 1 ∷ []
+
+-- switch x.(type) { case: L: fallthrough; default: }
+abbrev typeLabel : List Entry
+typeLabel = Block 7 ∷ TypeSwitch 6 ∷ Block 5 ∷ Case 3 ∷ Labeled L 2 ∷ Fallthrough ∷ Default 1 ∷ []
+
+-- a switch in a Case, itself in a Case of another switch: { case: { case: fallthrough; default: }; default: }
+abbrev switchIn : Entry → Entry → List Entry
+switchIn outer inner = Block 10 ∷ outer ∷ Block 8 ∷ Case 6 ∷ inner ∷ Block 4 ∷ Case 2 ∷ Fallthrough ∷ Default 1 ∷ Default 1 ∷ []
+
+-- a fallthrough after a switch in a Case: { case: { case: }; fallthrough; default: }
+abbrev switchBefore : Entry → Entry → List Entry
+switchBefore outer inner = Block 9 ∷ outer ∷ Block 7 ∷ Case 5 ∷ inner ∷ Block 2 ∷ Case 1 ∷ Fallthrough ∷ Default 1 ∷ []
+
+-- switch { case: select { comm: fallthrough; default: }; default: }
+abbrev commIn : List Entry
+commIn = Block 10 ∷ Switch 9 ∷ Block 8 ∷ Case 6 ∷ Select 5 ∷ Block 4 ∷ Comm 2 ∷ Fallthrough ∷ DefaultComm 1 ∷ Default 1 ∷ []
+
+-- none is well placed there, last or not, with labels or Empty rows after it; the switch of its own Case decides, not one around that or beside it
+pub type-switches : Places (Block 7 ∷ TypeSwitch 6 ∷ Block 5 ∷ Case 2 ∷ Fallthrough ∷ Default 2 ∷ Return ∷ []) (some 4)
+    × Places (Block 5 ∷ TypeSwitch 4 ∷ Block 3 ∷ Default 2 ∷ Fallthrough ∷ []) (some 4)
+    × Places typeEmpty (some 4)
+    × Places typeLabel (some 5)
+    × Places (switchIn (TypeSwitch 9) (Switch 5)) none
+    × Places (switchIn (Switch 9) (TypeSwitch 5)) (some 7)
+    × Places (switchBefore (TypeSwitch 8) (Switch 3)) (some 7)
+    × Places (switchBefore (Switch 8) (TypeSwitch 3)) none
+    × Places commIn (some 7)
+unfolding computed
+type-switches = ((refl, refl), (refl, refl), (refl, refl), (refl, refl), (refl, refl), (refl, refl), (refl, refl), (refl, refl), (refl, refl))
 
 -- ---- verdicts
 

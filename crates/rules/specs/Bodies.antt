@@ -85,6 +85,9 @@ Default s = entry 14 1 0 s
 abbrev pub Switch : ℕ → Entry
 Switch s = entry 15 0 0 s
 
+abbrev pub TypeSwitch : ℕ → Entry
+TypeSwitch s = entry 16 0 0 s
+
 abbrev pub Comm : ℕ → Entry
 Comm s = entry 17 0 0 s
 
@@ -167,6 +170,14 @@ gotoAndBack = rowWords (Block 6 ∷ Goto L ∷ Labeled M 2 ∷ Return ∷ Labele
 -- switch { case: fallthrough; default: return }
 abbrev pub fallIntoDefault : List ℕ
 fallIntoDefault = rowWords (Block 7 ∷ Switch 6 ∷ Block 5 ∷ Case 2 ∷ Fallthrough ∷ Default 2 ∷ Return ∷ [])
+
+-- the same in a type switch: switch x.(type) { case: fallthrough; default: return }
+abbrev pub fallInTypeSwitch : List ℕ
+fallInTypeSwitch = rowWords (Block 7 ∷ TypeSwitch 6 ∷ Block 5 ∷ Case 2 ∷ Fallthrough ∷ Default 2 ∷ Return ∷ [])
+
+-- switch x.(type) { case: L: fallthrough; default: }
+abbrev pub labelInTypeSwitch : List ℕ
+labelInTypeSwitch = rowWords (Block 7 ∷ TypeSwitch 6 ∷ Block 5 ∷ Case 3 ∷ Labeled L 2 ∷ Fallthrough ∷ Default 1 ∷ [])
 
 -- for { select { comm: return; comm: } }
 abbrev pub selectInLoop : List ℕ

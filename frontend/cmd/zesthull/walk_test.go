@@ -162,6 +162,12 @@ a.go:8:7: label M not defined
 		t.Errorf("%+v", r)
 	}
 	with("break", "walk", "-").expect(t, "-", 1, "", true)
+	const inTypeSwitch = `zesthull walk: <text>:1:1: statements: no walk, since it has faults:
+<text>:1:29: cannot fallthrough in type switch
+`
+	if r := with("", "walk", "-e", "switch x.(type) { case int: fallthrough; default: }"); r != (ran{1, "", inTypeSwitch}) {
+		t.Errorf("%+v", r)
+	}
 }
 
 // What can't be read or is wrongly asked for.

@@ -29,6 +29,10 @@ var document = body("ML", [5]uint32{12, 0, 1, 0, 5}, [5]uint32{11, 2, 7, 1, 1}, 
 
 var documentMarks = Marks{Sheet: []Fault{{8, 7, 1, 0}, {9, 9, 2, 0}}, Bindings: []uint32{0, 0, 3, 0, 0}, Misplaced: -1, Terminating: true}
 
+// inTypeSwitch is {switch x.(type) {case int: fallthrough; default: return}}.
+var inTypeSwitch = body("", [5]uint32{12, 0, 1, 0, 7}, [5]uint32{16, 0, 2, 0, 6}, [5]uint32{12, 0, 18, 0, 5},
+	[5]uint32{14, 0, 19, 0, 2}, [5]uint32{11, 3, 29, 0, 1}, [5]uint32{14, 1, 42, 0, 2}, [5]uint32{10, 0, 51, 0, 1})
+
 func TestMark(t *testing.T) {
 	cases := []struct {
 		name  string
@@ -42,6 +46,7 @@ func TestMark(t *testing.T) {
 		{"{switch {default: fallthrough}}",
 			body("", [5]uint32{12, 0, 1, 0, 5}, [5]uint32{15, 0, 2, 0, 4}, [5]uint32{12, 0, 9, 0, 3}, [5]uint32{14, 1, 10, 0, 2}, [5]uint32{11, 3, 19, 0, 1}),
 			Marks{[]Fault{}, []uint32{0, 0, 0, 0, 0}, 4, true}},
+		{"{switch x.(type) {case int: fallthrough; default: return}}", inTypeSwitch, Marks{[]Fault{}, make([]uint32, 7), 4, true}},
 		{"{L: goto L}", body("L", [5]uint32{12, 0, 1, 0, 3}, [5]uint32{3, 0, 2, 1, 2}, [5]uint32{11, 2, 10, 1, 1}),
 			Marks{[]Fault{}, []uint32{0, 2, 2}, -1, true}},
 		// a labelled fallthrough: 6, and the label of its name stays unused

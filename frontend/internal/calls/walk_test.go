@@ -64,6 +64,7 @@ func TestWalkRefusals(t *testing.T) {
 	}{
 		{"label faults", document, nil, 0, Faulty, 0},
 		{"a misplaced break", second(11, 0, 2, 0, 1), []uint32{7}, 9, Faulty, 0},
+		{"a fallthrough in a type switch", inTypeSwitch, []uint32{7}, 9, Faulty, 0},
 		{"the first choice", forLoop, []uint32{2}, 9, OutOfRange, 0},
 		{"the second choice", forLoop, []uint32{1, 2, 0}, 4, OutOfRange, 1},
 		{"the greatest choice", forLoop, []uint32{math.MaxUint32}, 9, OutOfRange, 0},

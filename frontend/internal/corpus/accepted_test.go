@@ -6,9 +6,6 @@ const acceptedErrors = `
 test/fixedbugs/bug136.go:10: not asked for: label L defined and not used
 test/fixedbugs/bug136.go:16: not asked for: label L1 defined and not used
 test/fixedbugs/bug179.go:18: not asked for: label L1 defined and not used
-
-# A fallthrough in a type switch: Go has none. Document 01's placing call lets it pass but for the last Case.
-test/fixedbugs/bug213.go:12: no finding for "fallthrough"
 `
 
 // acceptedSyntaxErrors are those that go/parser has for a declaration alone, and not for the file, where it gives up or goes on
@@ -36,22 +33,19 @@ test/syntax/topexpr.go:14:1: expected declaration, found x
 test/syntax/topexpr.go:19:1: expected declaration, found x
 `
 
-// acceptedTypes are where the findings differ from the errors of go/types. Difference A, which go/types has too, doesn't occur in
-// Go's source: TestDifferenceA has it.
-const acceptedTypes = `
-# A fallthrough in a type switch: Go has none. Document 01's placing call lets it pass but for the last Case, and there the
-# message is that of the other switch.
-src/cmd/compile/internal/syntax/testdata/fallthrough.go:53:3: cannot fallthrough final case in switch, which go/types hasn't
-src/cmd/compile/internal/syntax/testdata/fallthrough.go:53:3: cannot fallthrough in type switch, which only go/types has
-src/cmd/compile/internal/types2/testdata/fixedbugs/issue51533.go:17:3: cannot fallthrough in type switch, which only go/types has
-src/go/types/testdata/fixedbugs/issue51533.go:17:3: cannot fallthrough in type switch, which only go/types has
-test/fixedbugs/bug213.go:12:3: cannot fallthrough in type switch, which only go/types has
-`
-
 // acceptedVerdicts are where the verdicts on bodies differ from those of go/types.
 const acceptedVerdicts = `
 # A body of 2,035 rows is refused, and so has no verdict.
 src/cmd/internal/obj/arm64/asm7.go:5686:1: missing return, which only go/types has
+`
+
+// acceptedPutIn are where the misplaced branches differ from those of go/types once fallthroughs are put in.
+const acceptedPutIn = `
+# a clause of a select that neither sends nor receives, which go/types leaves out
+test/fixedbugs/issue25958.go:14:13: fallthrough statement out of place, which go/types hasn't
+# one of the file's own, which isn't the last in the last clause any more: the compiler tells these apart, go/types doesn't
+test/switch4.go:21:3: fallthrough statement out of place, which go/types hasn't
+test/switch4.go:21:3: cannot fallthrough final case in switch, which only go/types has
 `
 
 // acceptedPackages are those that can't be resolved.

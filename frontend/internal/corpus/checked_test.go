@@ -3,6 +3,7 @@ package corpus
 import (
 	"errors"
 	"go/ast"
+	"go/token"
 	"go/types"
 )
 
@@ -67,7 +68,7 @@ func (c *checked) unmet(f function, list []statement) (count int) {
 }
 
 // openUp changes a tree so that go/types judges all of it: every function gets a result, so that each body is looked through for
-// a missing return, and the operand of each type switch a type.
+// a missing return, and the operand of each type switch a type: it is interface{}(0).
 func (t *tree) openUp() {
 	for _, f := range t.functions {
 		if !f.hasResults {
@@ -76,7 +77,8 @@ func (t *tree) openUp() {
 	}
 	ast.Inspect(t.file, func(n ast.Node) bool {
 		if s, ok := n.(*ast.TypeSwitchStmt); ok {
-			guard(s).X = &ast.CallExpr{Fun: &ast.InterfaceType{Methods: &ast.FieldList{}}, Args: []ast.Expr{ast.NewIdent("nil")}}
+			zero := &ast.BasicLit{Kind: token.INT, Value: "0"}
+			guard(s).X = &ast.CallExpr{Fun: &ast.InterfaceType{Methods: &ast.FieldList{}}, Args: []ast.Expr{zero}}
 		}
 		return true
 	})

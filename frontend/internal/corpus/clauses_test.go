@@ -12,20 +12,12 @@ import (
 // TestClausesMadeDefaults makes clauses of Go's source defaults, since it has few multiple defaults of its own. It compares those
 // told with the errors of go/types, by line, column and message, but for bodies refused for their rows or names.
 func TestClausesMadeDefaults(t *testing.T) {
-	if testing.Short() {
-		t.Skip("takes too long for -short")
-	}
 	var found differences
 	var files, errors atomic.Int64
-	each(t, allFiles(t), func(f file) {
-		tree := parse(token.NewFileSet(), f)
-		if len(tree.errors) > 0 {
-			return
-		}
-		f.text = tree.makeDefaults(f.text)
-		if tree = parse(token.NewFileSet(), f); tree.hasSecondDefaults() {
+	eachChanged(t, (*tree).makeDefaults, func(f file, changed *tree) {
+		if changed.hasSecondDefaults() {
 			files.Add(1)
-			errors.Add(int64(newComparison(f, tree, true, &found).compareDefaultsAlone()))
+			errors.Add(int64(newComparison(f, changed, true, &found).compareAlone(mark.MultipleDefaults, isOfDefaults)))
 		}
 	})
 	found.compare(t, "")
@@ -60,8 +52,6 @@ func headOf(n ast.Node) (word, colon token.Pos) {
 	return token.NoPos, token.NoPos
 }
 
-func (t *tree) offset(p token.Pos) int { return t.fset.PositionFor(p, false).Offset }
-
 func (t *tree) hasSecondDefaults() bool {
 	for _, f := range t.functions {
 		if len(secondDefaults(statements(f.body))) > 0 {
@@ -69,21 +59,4 @@ func (t *tree) hasSecondDefaults() bool {
 		}
 	}
 	return false
-}
-
-// compareDefaultsAlone compares the multiple defaults, and counts those of go/types.
-func (c *comparison) compareDefaultsAlone() int {
-	ours, theirs := faults{}, faults{}
-	for _, f := range c.result.Findings {
-		if f.Kind == mark.MultipleDefaults {
-			c.addFinding(ours, f)
-		}
-	}
-	for _, e := range c.errors {
-		if n := c.refusalAt(e.Pos); isOfDefaults(e) && n != 1 && n != 2 {
-			c.addError(theirs, e)
-		}
-	}
-	c.bothWays(ours, theirs)
-	return len(theirs)
 }

@@ -90,10 +90,31 @@ func misplacedMessage(list []rows.Row, row int) string {
 	case rows.Continue:
 		return "continue is not in a loop"
 	}
-	if endsSwitch(list, row) {
+	return fallthroughMessage(list, row)
+}
+
+// fallthroughMessage tells the cases apart as Go's compiler does.
+func fallthroughMessage(list []rows.Row, row int) string {
+	switch {
+	case inTypeSwitch(list, row):
+		return "cannot fallthrough in type switch"
+	case endsSwitch(list, row):
 		return "cannot fallthrough final case in switch"
 	}
 	return "fallthrough statement out of place"
+}
+
+// inTypeSwitch tells whether the innermost loop, switch or select around the row is a type switch.
+func inTypeSwitch(list []rows.Row, row int) bool {
+	for above := parent(list, row); above >= 0; above = parent(list, above) {
+		switch list[above].Kind {
+		case rows.Switch, rows.Select, rows.For, rows.Range:
+			return false
+		case rows.TypeSwitch:
+			return true
+		}
+	}
+	return false
 }
 
 // endsSwitch tells whether the row is the last item but for Empties, its labels included, of the last Case of its switch.

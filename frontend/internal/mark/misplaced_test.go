@@ -7,6 +7,7 @@ const (
 	noContinue    = "continue is not in a loop"
 	noFallthrough = "fallthrough statement out of place"
 	finalCase     = "cannot fallthrough final case in switch"
+	inTypes       = "cannot fallthrough in type switch"
 )
 
 func TestMisplaced(t *testing.T) {
@@ -57,6 +58,56 @@ func TestMisplaced(t *testing.T) {
 	})
 }
 
+// No fallthrough may stand in a type switch.
+func TestFallthroughInTypeSwitch(t *testing.T) {
+	tryAll(t, Misplaced, []findingCase{
+		{"switch x.(type) { case int: @fallthrough; case string: }", inTypes},
+		{"switch x.(type) { case int: @fallthrough }", inTypes},
+		{"switch x.(type) { case int: case string: @fallthrough }", inTypes},
+		{"switch x.(type) { default: @fallthrough; case int: }", inTypes},
+		{"switch x.(type) { case int: default: @fallthrough }", inTypes},
+		{"switch y := x.(type) { case int: y++; @fallthrough; default: }", inTypes},
+		{"switch x.(type) { case int: @fallthrough; y++; default: }", inTypes},
+		{"switch x.(type) { case int: @fallthrough; y++ }", inTypes},
+		{"switch x.(type) { case int: @fallthrough;;; default: }", inTypes},
+		{"switch x.(type) { case int: default: @fallthrough;; }", inTypes},
+		{"switch x.(type) { case int: _: @fallthrough; default: }", inTypes},
+		{"switch x.(type) { case int: default: _: _: @fallthrough;; }", inTypes},
+		// in a block or an if of its clause
+		{"switch x.(type) { case int: { @fallthrough }; default: }", inTypes},
+		{"switch x.(type) { case int: { _: { @fallthrough } } }", inTypes},
+		{"switch x.(type) { case int: if a { @fallthrough }; default: }", inTypes},
+		{"switch x.(type) { case int: if a {} else if b {} else { @fallthrough } }", inTypes},
+	})
+}
+
+// Which message a fallthrough has hangs on the innermost loop, switch or select around it.
+func TestFallthroughInInnermost(t *testing.T) {
+	tryAll(t, Misplaced, []findingCase{
+		// inside a type switch
+		{"switch x.(type) { case int: switch { case a: fallthrough; case b: }; default: }", ""},
+		{"switch x.(type) { case int: switch { case a: @fallthrough }; default: }", finalCase},
+		{"switch x.(type) { case int: switch { case a: @fallthrough; y++; case b: } }", noFallthrough},
+		{"switch x.(type) { case int: switch { case a: { @fallthrough }; case b: } }", noFallthrough},
+		{"switch x.(type) { case int: select { case <-c: @fallthrough; default: }; default: }", noFallthrough},
+		{"switch x.(type) { case int: for { @fallthrough }; default: }", noFallthrough},
+		{"switch x.(type) { case int: for range y { if a { @fallthrough } } }", noFallthrough},
+		{"switch x.(type) { case int: func() { @fallthrough }(); default: }", noFallthrough},
+		{"switch x.(type) { case int: switch y.(type) { case int: @fallthrough } }", inTypes},
+		// a type switch inside
+		{"switch { case a: switch x.(type) { case int: @fallthrough; default: }; fallthrough; case b: }", inTypes},
+		{"select { default: switch x.(type) { case int: @fallthrough } }", inTypes},
+		{"for { switch x.(type) { case int: @fallthrough; default: } }", inTypes},
+		{"func() { switch x.(type) { case int: @fallthrough; default: } }()", inTypes},
+		// after the inner one
+		{"switch x.(type) { case int: switch { case a: }; @fallthrough; default: }", inTypes},
+		{"switch x.(type) { case int: for {}; select {}; @fallthrough }", inTypes},
+		{"switch { case a: switch x.(type) { case int: }; fallthrough; case b: }", ""},
+		{"switch { case a: switch x.(type) { case int: }; @fallthrough }", finalCase},
+		{"switch x.(type) { case int: }; @fallthrough", noFallthrough},
+	})
+}
+
 // All of them are told, and not only the first.
 func TestAllMisplaced(t *testing.T) {
 	tryAll(t, Misplaced, []findingCase{
@@ -67,6 +118,10 @@ func TestAllMisplaced(t *testing.T) {
 		{"switch { case a: @fallthrough; @continue; case b: @fallthrough }", noFallthrough + "\n" + noContinue + "\n" + finalCase},
 		{"@break; switch { case a: fallthrough; case b: @continue; fallthrough; case c: @fallthrough }; @fallthrough",
 			noBreak + "\n" + noContinue + "\n" + finalCase + "\n" + noFallthrough},
+		{"switch x.(type) { case int: @fallthrough; case string: { @fallthrough }; @fallthrough; @continue; default: break; @fallthrough }",
+			inTypes + "\n" + inTypes + "\n" + inTypes + "\n" + noContinue + "\n" + inTypes},
+		{"switch x.(type) { case int: @fallthrough; switch { case a: fallthrough; case b: @fallthrough }; @fallthrough }; @fallthrough",
+			inTypes + "\n" + finalCase + "\n" + inTypes + "\n" + noFallthrough},
 		{"@continue; func() { @continue; for { continue }; @break }(); @continue",
 			noContinue + "\n" + noContinue + "\n" + noBreak + "\n" + noContinue},
 	})

@@ -190,7 +190,8 @@ func TestOpenLater(t *testing.T) {
 }
 
 func TestNoWalk(t *testing.T) {
-	for _, text := range []string{"break", "L: return", "goto M", "for { continue L }"} {
+	for _, text := range []string{"break", "L: return", "goto M", "for { continue L }",
+		"switch x.(type) { case int: fallthrough; default: }"} {
 		_, err := By(statements(text), by(7), 9)
 		var refusal *calls.Refusal
 		if !errors.As(err, &refusal) || *refusal != (calls.Refusal{Number: calls.Faulty}) {

@@ -4,7 +4,8 @@ use crate::numbers::grouped;
 use crate::tally::Tally;
 use crate::walked::Walked;
 use crate::well_formed;
-use oracle::{Body, Marks};
+use oracle::placing::placing;
+use oracle::{kind, Body, Marks};
 
 #[derive(Default)]
 pub struct Occurred {
@@ -16,6 +17,8 @@ pub struct Occurred {
     refusals: [u64; 11],
     /// Bodies badly placed and well placed.
     placed: [u64; 2],
+    /// Bodies whose placing hangs on a type switch.
+    type_switches: u64,
     /// Bodies with verdict no and yes.
     verdicts: [u64; 2],
     /// Bodies on which stock had to be equalled.
@@ -40,6 +43,7 @@ impl Occurred {
         // Every well-formed body is also tried with buffers too short.
         self.refusals[7] += 1;
         self.placed[badly_placed.is_none() as usize] += 1;
+        self.type_switches += by_type_switch(body, *badly_placed) as u64;
         self.verdicts[answer.terminating as usize] += 1;
         self.same_labels += seen.stock.same_labels as u64;
         self.same_verdict += seen.stock.same_verdict as u64;
@@ -67,6 +71,7 @@ impl Occurred {
         look("kind", 0, &self.kinds);
         look("refusal", 1, &self.refusals[1..]);
         look("placing (0 bad, 1 well)", 0, &self.placed);
+        look("row badly placed in a type switch", 1, &[self.type_switches]);
         look("verdict (0 no, 1 yes)", 0, &self.verdicts);
         look("domain of stock's", 1, &[self.same_labels, self.same_verdict]);
         look("labelled branch (1 bound, 2 not)", 1, &[self.tally.bound, self.tally.unbound]);
@@ -84,9 +89,10 @@ impl Occurred {
         println!("  sheet rows of code  {}", list(1, &self.codes[1..]));
         println!("  rows of kind  {}", list(0, &self.kinds));
         println!(
-            "  badly placed {}, well placed {}",
+            "  badly placed {}, well placed {}; by a type switch {}",
             grouped(self.placed[0]),
-            grouped(self.placed[1])
+            grouped(self.placed[1]),
+            grouped(self.type_switches)
         );
         println!("  verdict no {}, yes {}", grouped(self.verdicts[0]), grouped(self.verdicts[1]));
         println!("Not refused: {}. Refused with", grouped(self.refusals[0]));
@@ -109,6 +115,19 @@ impl Occurred {
         println!("  steps from kind  {}", list(0, kinds));
         println!("  steps by {}", named(self.walked.by_branch()));
     }
+}
+
+/// Whether a row is badly placed that wouldn't be in a switch of the other kind.
+fn by_type_switch(body: &Body, badly_placed: Option<u32>) -> bool {
+    badly_placed.is_some() && placing(&without_type_switches(body.clone())) != badly_placed
+}
+
+/// The body with a switch for each type switch.
+fn without_type_switches(mut body: Body) -> Body {
+    for row in body.rows.iter_mut().filter(|row| row[0] == kind::TYPE_SWITCH) {
+        row[0] = kind::SWITCH;
+    }
+    body
 }
 
 /// Counts with their names.

@@ -4,12 +4,13 @@ use crate::options::Options;
 use crate::random::{Source, RANDOM};
 use crate::run::{Run, Step};
 use crate::{edges, shapes};
-use oracle::bodies::{at_limits, every, Rng};
+use oracle::bodies::{at_limits, every, fallthroughs, Rng};
 
 pub fn all(run: &mut Run, options: &Options) -> Step {
     every_small_body(run)?;
     at_edges(run)?;
     every_shape(run)?;
+    every_fallthrough(run)?;
     for (number, source) in RANDOM.iter().enumerate() {
         random(run, options, number as u64, source)?;
     }
@@ -53,6 +54,14 @@ fn every_shape(run: &mut Run) -> Step {
             }
         });
         result
+    })
+}
+
+/// A fallthrough in each place of each statement that holds clauses.
+fn every_fallthrough(run: &mut Run) -> Step {
+    let bodies = fallthroughs();
+    run.phase("fallthroughs in clauses", bodies.len() as u64, |phase| {
+        bodies.iter().try_for_each(|body| phase.body(body))
     })
 }
 

@@ -28,7 +28,7 @@ phase                              bodies        rows    refused  compared      
 
 const COMPARED: &str = "
 answers: of each body not refused; refusal (none), sheet, bindings and verdict
-  with goscript, mended; placing and names with document 01 read plainly; the
+  with goscript, mended; placing and names with the documents read plainly; the
   marks call with all of these; sheet and bindings lent longer than needed, as
   long, and one word short; stock inside its domains; goscript's labelled
   branches add up, those bound and those on the sheet; walks of bodies without

@@ -1,12 +1,8 @@
 //! Bodies with no, one and several defaults in one switch or Select.
 
 use super::rows::{body, leaf, over, row, Rows};
-use super::Rng;
+use super::{Rng, STATEMENTS};
 use crate::{kind, Body};
-
-/// The statements that hold clauses, and the clauses that they hold.
-const STATEMENTS: [[u32; 2]; 3] =
-    [[kind::SWITCH, kind::CASE], [kind::TYPE_SWITCH, kind::CASE], [kind::SELECT, kind::COMM]];
 
 /// Switches and Selects of up to four clauses and of two with another switch
 /// or Select of two inside, each clause a default or not.

@@ -1,4 +1,4 @@
-//! Bodies with the answers that document 01 gives them. The position of row r is 10 * (r + 1).
+//! Bodies with the answers that documents 01 and 02 give them. The position of row r is 10 * (r + 1).
 
 use super::{Answer, Words};
 
@@ -341,7 +341,7 @@ pub const LABELS: [Case; 16] = [
 ];
 
 /// Bodies for the placing and verdict calls.
-pub const FLOW: [Case; 11] = [
+pub const FLOW: [Case; 12] = [
     Case {
         text: "each plain kind, then return",
         rows: &[
@@ -452,6 +452,18 @@ pub const FLOW: [Case; 11] = [
         names: &[],
         sheet: &[],
         bindings: &[0; 8],
+        placing: Some(5),
+        verdict: true,
+    },
+    Case {
+        text: "switch x.(type) { case a: _: fallthrough; ; default: return }",
+        rows: &[
+            [12, 0, 10, 0, 9], [16, 0, 20, 0, 8], [12, 0, 30, 0, 7], [14, 0, 40, 0, 4], [3, 0, 50, 1, 2],
+            [11, 3, 60, 0, 1], [2, 0, 70, 0, 1], [14, 1, 80, 0, 2], [10, 0, 90, 0, 1],
+        ],
+        names: &["_"],
+        sheet: &[],
+        bindings: &[0; 9],
         placing: Some(5),
         verdict: true,
     },

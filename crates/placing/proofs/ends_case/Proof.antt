@@ -1,4 +1,5 @@
--- Each test of the code is one of the definition, in its order: the row has a list, that is a Case, its Block goes on after it, and only Empty rows follow.
+-- Each test of the code is one of the definition, in its order: the row has a list, that is a Case, its Block goes on after it, the switch is of kind 15, and
+-- only Empty rows follow.
 -- Ending.antt says what the words of `lists` name. Assumes nothing.
 use mathlib.Core.Path.{_≡_, sym, _∙_, ap}
 use mathlib.Core.Bool.{true}
@@ -11,12 +12,13 @@ use borrow.Author.Needs.{needs}
 use borrow.Author.Tests.{eq-eqb, ne-eqb}
 use lib.Dec.{eqb}
 use Rattle.rules.specs.Rows.{rowCount, end}
-use Rattle.rules.specs.Class.{caseBlock, oneOf, isCase, class}
+use Rattle.rules.specs.Class.{caseBlock, switch, oneOf, isSwitch, isCase, class}
 use Rattle.rules.specs.Scope.{innermost, listOf, onlyEmpty}
 use Rattle.rules.specs.Labels.{word}
 use Rattle.rules.proofs.Around.{innermost-found}
-use Rattle.rules.proofs.Lists.{row-case}
-use Rattle.placing.proofs.Ending.{row-none, row-some, list-word, list-before, home-word, no-list, no-case, no-home, last-case, by-rest}
+use Rattle.rules.proofs.Lists.{row-case, row-expression-switch}
+use Rattle.placing.proofs.Ending.{row-none, row-some, list-word, list-before, home-word, switch-before, no-list, no-case}
+use Rattle.placing.proofs.Ending.{no-home, last-case, type-switch, by-rest}
 use Rattle.placing.proofs.ends_case.Statement.{statement}
 use Rattle.placing.proofs.ends_case.Tie as tie
 
@@ -96,6 +98,34 @@ home-end : (c : tie.After-size2) →
     home (c .before .before) + c .size2 .result ≡ end (rows (sized (c .before .before .before .before))) (home (c .before .before))
 home-end c = ap (λ (n : ℕ). home (c .before .before) + n) (c .size2 .ensures)
 
+-- the switch, right before the Block
+abbrev switch-at : tie.Else4 → ℕ
+switch-at c = c .before .before .before .wide2 .result - 2
+
+abbrev at-sized : tie.Else4 → tie.After-size
+at-sized c = at-size-1 (c .before)
+
+switch-found : (c : tie.Else4) →
+    (2 ≤ c .before .before .before .wide2 .result)
+    × (innermost (rows (sized (at-sized c))) isSwitch (list (sized (at-sized c))) ≡ some (switch-at c))
+switch-found c =
+    let s = at-sized c in
+    switch-before (start (sized s) .pre .0) (list (sized s)) (list-row (s .before .before .before)) _ (is-case (s .before)) (home-of (c .before .before))
+
+switch-within : (c : tie.Else4) → switch-at c < rowCount (rows (sized (at-sized c)))
+switch-within c = omega (arith, home-row (c .before .before))
+
+-- its kind says which switch it is
+switch-is : (c : tie.After-kind2) → eqb (c .kind2 .result) 15 ≡ oneOf (switch ∷ []) (class (rows (sized (at-sized (c .before)))) (switch-at (c .before)))
+switch-is c =
+    let s = at-sized (c .before) in
+    row-expression-switch _ _ _ (c .kind2 .ensures) (start (sized s) .pre .0 .formed .2 .details _ (switch-within (c .before)))
+
+-- the Block goes on after the Case
+goes-on : (c : tie.Else4) →
+    end (rows (sized (at-sized c))) (list (sized (at-sized c))) < end (rows (sized (at-sized c))) (home (c .before .before .before))
+goes-on c = omega (arith, home-end (c .before), case-end (at-sized c))
+
 mul-wide : tie.Need-mul-wide
 mul-wide c = search needs
 
@@ -159,21 +189,36 @@ returns-4 c =
     let s = at-size-1 b in
     last-case _ _ _ (list-of (s .before .before .before)) (is-case (s .before)) _ (home-of (b .before)) (omega (arith, home-end b, case-end s))
 
+sub-t10 : tie.Need-sub-t10
+sub-t10 c = switch-found c .0
+
+kind-requires-2 : tie.Need-kind-requires-2
+kind-requires-2 c κs = switch-within c
+
+returns-5 : tie.Need-returns-5
+returns-5 c =
+    let d = c .before .before in
+    let s = at-sized d in
+    type-switch _ _ _ (list-of (s .before .before .before)) (is-case (s .before)) _ (home-of (d .before .before)) (goes-on d) _ (switch-found d .1)
+    (sym (switch-is (c .before)) ∙ ne-eqb _ 15 (c .if5 .taken))
+
 add-only-empty : tie.Need-add-only-empty
 add-only-empty c = search needs
 
 only-empty-requires : tie.Need-only-empty-requires
 only-empty-requires c κs =
-    let s = at-size-1 (c .before) in
+    let s = at-sized (c .before .before) in
     (start (at-wide-1 s) .pre .0 .formed .2 .details, case-within s)
 
-returns-5 : tie.Need-returns-5
-returns-5 c =
-    let b = c .before .before in
-    let s = at-size-1 b in
-    let k = at-wide-1 s in
-    c .only-empty .ensures ∙ ap (onlyEmpty (rows k) (row k + 1)) (case-end s)
-    ∙ by-rest _ _ _ (list-of (s .before .before .before)) (is-case (s .before)) _ (home-of (b .before)) (omega (arith, home-end b, case-end s))
+returns-6 : tie.Need-returns-6
+returns-6 c =
+    let k = c .before .before in
+    let d = k .before in
+    let s = at-sized d in
+    let e = at-wide-1 s in
+    c .only-empty .ensures ∙ ap (onlyEmpty (rows e) (row e + 1)) (case-end s)
+    ∙ by-rest _ _ _ (list-of (s .before .before .before)) (is-case (s .before)) _ (home-of (d .before .before)) (goes-on d) _ (switch-found d .1)
+    (sym (switch-is k) ∙ eq-eqb _ 15 (c .before .if5 .left))
 
 pub ends-case-spec : {M : Type 1} → statement M
 ends-case-spec =
@@ -197,6 +242,9 @@ ends-case-spec =
     size-requires-2
     add-block-end
     returns-4
+    sub-t10
+    kind-requires-2
+    returns-5
     add-only-empty
     only-empty-requires
-    returns-5)
+    returns-6)

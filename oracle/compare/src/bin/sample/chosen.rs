@@ -3,9 +3,10 @@
 use crate::headers;
 use crate::list::List;
 use oracle::bodies::rows::{block, body, goto, leaf};
-use oracle::bodies::{at_limits, damage, defaults, every, example, people, random, table};
-use oracle::bodies::{two_defaults, with_any_bytes, Rng, Shape};
+use oracle::bodies::{at_limits, damage, defaults, every, example, fallthroughs, people};
+use oracle::bodies::{random, table, two_defaults, with_any_bytes, Rng, Shape};
 use oracle::file::file;
+use oracle::placing::placing;
 use oracle::{kind, Body};
 
 /// The bodies of `at_limits` that are taken.
@@ -39,6 +40,7 @@ pub fn all(list: &mut List) {
     add_limits(list);
     add_damaged(list, &mut rng);
     add_defaults(list, &mut rng);
+    add_fallthroughs(list);
 }
 
 fn small(rng: &mut Rng) -> Body {
@@ -103,4 +105,22 @@ fn add_defaults(list: &mut List, rng: &mut Rng) {
             list.add_file(damaged);
         }
     }
+}
+
+/// The fallthroughs whose placing hangs on which switch they are in.
+fn add_fallthroughs(list: &mut List) {
+    let hangs = |body: &Body| placing(body) != placing(&with_other_switches(body.clone()));
+    fallthroughs().into_iter().filter(hangs).for_each(|body| list.add(&body.words()));
+}
+
+/// The body with type switches for switches, and the other way round.
+fn with_other_switches(mut body: Body) -> Body {
+    for row in &mut body.rows {
+        row[0] = match row[0] {
+            kind::SWITCH => kind::TYPE_SWITCH,
+            kind::TYPE_SWITCH => kind::SWITCH,
+            other => other,
+        };
+    }
+    body
 }

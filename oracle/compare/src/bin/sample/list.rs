@@ -5,7 +5,7 @@ use oracle::text::printed;
 use oracle::Words;
 
 pub const HELP: &str = "\
-sample FILE writes a list of some 3,300 body files, each with what program
+sample FILE writes a list of some 3,400 body files, each with what program
 `marks` prints for it by the oracle. All numbers are little-endian: for each
 body a u32 length and the body file, a u32 length and the text; at the end the
 u32 0xFFFFFFFF. Exit code: 0 written, 1 not written, 2 wrong arguments.";
