@@ -6,7 +6,6 @@ mod fill;
 mod gotos;
 mod labels;
 mod names;
-mod stops;
 mod unused;
 
 use oracle::bodies::{people, Rng};
@@ -27,23 +26,12 @@ pub const CLASSES: [Class; 7] = [
     Class { name: "names of one hash", make: names::of_one_hash },
 ];
 
-/// For the unreachable rows alone: the same with more rows reached, and in place
-/// of those classes whose bodies have faults.
-pub const FAULTLESS: [Class; 6] = [
-    Class { name: "as people write them, no stops", make: stops::people },
-    Class { name: "goto-heavy, all in Ifs", make: gotos::in_ifs },
-    Class { name: "deep, no stops", make: stops::deep },
-    Class { name: "name-heavy, all declared", make: names::declared },
-    Class { name: "used labels", make: names::used },
-    Class { name: "names of one hash, all declared", make: names::of_one_hash_declared },
-];
-
 pub const SIZES: [usize; 4] = [10, 100, 1_000, 2_000];
 
 #[test]
 fn bodies_are_well_formed_and_as_large_as_wanted() {
     let mut rng = Rng::new(2);
-    for class in CLASSES.iter().chain(&FAULTLESS) {
+    for class in &CLASSES {
         for rows in (10..60).chain(SIZES) {
             let body = (class.make)(&mut rng, rows);
             assert_eq!(oracle::refusals::refusal_of(&body), None, "{}", class.name);
@@ -52,17 +40,4 @@ fn bodies_are_well_formed_and_as_large_as_wanted() {
     }
     let names = SIZES.map(|rows| names::make(&mut rng, rows).pairs.len());
     assert_eq!(names, [4, 49, 499, 500]);
-    let names = SIZES.map(|rows| names::declared(&mut rng, rows).pairs.len());
-    assert_eq!(names, [3, 33, 333, 500]);
-}
-
-#[test]
-fn faultless_bodies_have_no_fault() {
-    let mut rng = Rng::new(2);
-    for class in &FAULTLESS {
-        for rows in (10..60).chain(SIZES) {
-            let marks = oracle::Marks::of(&(class.make)(&mut rng, rows));
-            assert_eq!((marks.answer.sheet, marks.badly_placed), (vec![], None), "{}", class.name);
-        }
-    }
 }

@@ -1,15 +1,12 @@
-//! Times the port beside goscript, its walk beside one over a tree of nodes, and
-//! its list of unreachable rows beside a closure over the rows.
+//! Times the port beside goscript, and its walk beside one over a tree of nodes.
 
 mod batch;
 mod classes;
-mod closure;
 mod machine;
 mod measure;
 mod options;
 mod report;
 mod tree;
-mod unreachable;
 mod walks;
 
 use classes::{CLASSES, SIZES};
@@ -51,10 +48,7 @@ fn time(quick: bool) {
     eprintln!("steps of a walk");
     let walks = walks::measure(&effort);
     let starts = SIZES.map(|rows| (rows, walks::measure_start(rows, &effort)));
-    // Half as many sides, half as long.
-    let lists = unreachable::measure(&Effort { time: effort.time / 2, ..effort });
     println!("{}\n", machine::line());
     report::show(&lines);
     report::show_walks(&walks, &starts);
-    report::show_unreachable(&lists);
 }

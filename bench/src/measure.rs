@@ -2,7 +2,6 @@
 
 use crate::batch::{timer, Batch, Call};
 use oracle::Body;
-use std::array::from_fn;
 use std::hint::black_box;
 use std::time::{Duration, Instant};
 
@@ -35,13 +34,6 @@ pub struct Figure {
     pub least: f64,
 }
 
-impl Figure {
-    /// The difference from another.
-    pub fn beyond(self, other: Figure) -> Figure {
-        Figure { median: self.median - other.median, least: self.least - other.least }
-    }
-}
-
 pub struct Figures {
     pub goscript: Figure,
     /// In the order of `CALLS`.
@@ -49,21 +41,15 @@ pub struct Figures {
 }
 
 pub fn measure(pool: &[Body], effort: &Effort) -> Figures {
-    let time = |batch: &mut Batch, side: usize| match side {
-        0 => batch.goscript(),
-        _ => batch.port(CALLS[side - 1]),
-    };
-    let [goscript, port @ ..]: [Figure; SIDES] = by_turns(pool, time, effort);
-    Figures { goscript, port }
-}
-
-/// What some calls take, a row.
-pub fn measure_calls<const N: usize>(
-    pool: &[Body],
-    calls: [Call; N],
-    effort: &Effort,
-) -> [Figure; N] {
-    by_turns(pool, |batch, side| batch.port(calls[side]), effort)
+    let (rows, mut batches) = (row_count(pool), batches(pool));
+    let (started, timer) = (Instant::now(), timer());
+    round(&mut batches, 0, timer);
+    let mut rounds = vec![];
+    while rounds.len() < effort.rounds || started.elapsed() < effort.time {
+        rounds.push(round(&mut batches, rounds.len(), timer));
+    }
+    let figure = |side: usize| figure(rounds.iter().map(|round| round[side]).collect(), rows);
+    Figures { goscript: figure(0), port: [1, 2, 3, 4, 5].map(figure) }
 }
 
 /// What one call alone takes, a body.
@@ -75,23 +61,6 @@ pub fn measure_call(pool: &[Body], call: Call, effort: &Effort) -> Figure {
         times.push(batches.iter_mut().map(|batch| batch.port(call).saturating_sub(timer)).sum());
     }
     figure(times, pool.len())
-}
-
-/// What each side takes, a row; `time` gives what one takes on a batch.
-fn by_turns<const N: usize>(
-    pool: &[Body],
-    time: impl Fn(&mut Batch, usize) -> Duration,
-    effort: &Effort,
-) -> [Figure; N] {
-    let (rows, mut batches) = (row_count(pool), batches(pool));
-    let (started, timer) = (Instant::now(), timer());
-    let time = |batch: &mut Batch, side: usize| time(batch, side).saturating_sub(timer);
-    round::<N>(&mut batches, 0, time);
-    let mut rounds = vec![];
-    while rounds.len() < effort.rounds || started.elapsed() < effort.time {
-        rounds.push(round::<N>(&mut batches, rounds.len(), time));
-    }
-    from_fn(|side| figure(rounds.iter().map(|round| round[side]).collect(), rows))
 }
 
 fn row_count(pool: &[Body]) -> usize {
@@ -107,15 +76,17 @@ fn batches(pool: &[Body]) -> Vec<Batch> {
 /// first of them changes from round to round. No side meets a body that
 /// another side has just had, so that none profits from what the processor
 /// has learned about it.
-fn round<const N: usize>(
-    batches: &mut [Batch],
-    number: usize,
-    time: impl Fn(&mut Batch, usize) -> Duration,
-) -> [Duration; N] {
-    let mut times = [Duration::ZERO; N];
-    for turn in 0..N {
-        let side = (number + turn) % N;
-        times[side] = batches.iter_mut().map(|batch| time(batch, side)).sum();
+fn round(batches: &mut [Batch], number: usize, timer: Duration) -> [Duration; SIDES] {
+    let mut times = [Duration::ZERO; SIDES];
+    for turn in 0..SIDES {
+        let side = (number + turn) % SIDES;
+        for batch in batches.iter_mut() {
+            let time = match side {
+                0 => batch.goscript(),
+                _ => batch.port(CALLS[side - 1]),
+            };
+            times[side] += time.saturating_sub(timer);
+        }
     }
     times
 }

@@ -1,9 +1,9 @@
 //! The command's options.
 
 pub const HELP: &str = "\
-Times the port beside goscript on the same bodies, the steps of its walk beside
-a walk over a tree of nodes, and its list of unreachable rows beside a closure
-over the rows, in one process, and prints the tables in Markdown.
+Times the port beside goscript on the same bodies, and the steps of its walk
+beside a walk over a tree of nodes, in one process, and prints the tables in
+Markdown.
 
   --quick   a short run, for a first look
   --help    this text

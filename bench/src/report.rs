@@ -1,7 +1,6 @@
 //! The tables, in Markdown.
 
 use crate::measure::{Figure, Figures};
-use crate::unreachable::ListLine;
 use crate::walks::{WalkLine, STEPS};
 
 pub struct Line {
@@ -47,23 +46,6 @@ pub fn show_walks(lines: &[WalkLine], starts: &[(usize, Figure)]) {
     println!("|---:|---:|");
     for (rows, start) in starts {
         println!("| {rows} | {} |", text(*start));
-    }
-}
-
-pub fn show_unreachable(lines: &[ListLine]) {
-    println!(
-        "\nUnreachable rows, nanoseconds a row, median (least); beyond the marks by difference:\n"
-    );
-    println!(
-        "| class | rows | listed | marks | unreachable | beyond the marks \
-         | marks, then closure | beyond the marks |"
-    );
-    println!("|---|---:|---:|---:|---:|---:|---:|---:|");
-    for ListLine { class, rows, listed, figures } in lines {
-        let listed = listed.map_or("refused".to_string(), |share| format!("{share:.0} %"));
-        let [marks, port, closure] = *figures;
-        let figures = [marks, port, port.beyond(marks), closure, closure.beyond(marks)];
-        println!("| {class} | {rows} | {listed} | {} |", figures.map(text).join(" | "));
     }
 }
 

@@ -64,9 +64,7 @@ static void check_told(int line, const char *call, uint32_t number, size_t value
 
 static uint32_t sheet_memory[8 * MOST_ROWS + 3 * MARGIN];
 static uint32_t binding_memory[MOST_ROWS + 3 * MARGIN];
-static uint32_t list_memory[MOST_ROWS + 3 * MARGIN];
 static uint32_t *const sheet = sheet_memory + MARGIN, *const bindings = binding_memory + MARGIN;
-static uint32_t *const list = list_memory + MARGIN;
 
 #define COUNT(array) (sizeof(array) / sizeof((array)[0]))
 
@@ -75,10 +73,6 @@ static uint32_t pattern(size_t at) { return 0xA5A50000u ^ (uint32_t)at; }
 static void fill(void) {
     for (size_t i = 0; i < COUNT(sheet_memory); i++) sheet_memory[i] = pattern(i);
     for (size_t i = 0; i < COUNT(binding_memory); i++) binding_memory[i] = pattern(i);
-}
-
-static void fill_list(void) {
-    for (size_t i = 0; i < COUNT(list_memory); i++) list_memory[i] = pattern(i);
 }
 
 /* Whether the memory has the words given after its margin, and the pattern elsewhere. */
@@ -176,51 +170,12 @@ static void try_first_place(int line, struct body body, struct answer due) {
         walked(line, body, course, AT(0), 0, 0);
 }
 
-static void try_unreachable(int line, struct body body, size_t list_words, uint32_t number,
-                            size_t due, const uint32_t *rows, size_t written) {
-    size_t value;
-    fill_list();
-    uint32_t got = zesthull_unreachable(LENT(body), list, list_words, unset(&value));
-    check_told(line, "unreachable", got, value, number, due);
-    check(line, holds(list_memory, COUNT(list_memory), rows, written), "words of the list");
-}
-
-static void list_refused(int line, struct body body, size_t list_words, uint32_t number,
-                         size_t index) {
-    try_unreachable(line, body, list_words, number, index, NULL, 0);
-}
-
-/* A well-formed body with a list too short, one word and all of them, be there a fault or not. */
-static void list_too_short(int line, struct body body) {
-    list_refused(line, body, body.row_words / 5 - 1, ZESTHULL_TOO_SHORT, 0);
-    list_refused(line, body, 0, ZESTHULL_TOO_SHORT, 0);
-}
-
-/* The unreachable rows of a body without faults, in a list just long enough and in a longer one. */
-static void listed(int line, struct body body, const uint32_t *rows, size_t count) {
-    list_too_short(line, body);
-    for (size_t more = 0; more <= MARGIN; more += MARGIN)
-        try_unreachable(line, body, body.row_words / 5 + more, ZESTHULL_NONE, count, rows, count);
-}
-
-/* A body with a fault. */
-static void list_faulty(int line, struct body body) {
-    list_too_short(line, body);
-    for (size_t more = 0; more <= MARGIN; more += MARGIN)
-        list_refused(line, body, body.row_words / 5 + more, ZESTHULL_FAULTY, 0);
-}
-
-/* A well-formed body through every call, with buffers just long enough and longer. Where it has no
-   fault each of its rows is reached. */
+/* A well-formed body through every call, with buffers just long enough and longer. */
 static void answered(int line, struct body body, struct answer due) {
     try_refusal(line, body, ZESTHULL_NONE, 0);
     try_placing(line, body, ZESTHULL_NONE, due.placing);
     try_verdict(line, body, ZESTHULL_NONE, due.verdict);
     try_first_place(line, body, due);
-    if (due.sheet_words || due.placing)
-        list_faulty(line, body);
-    else
-        listed(line, body, NO_WORDS);
     size_t faults = due.sheet_words / 4;
     for (size_t more = 0; more <= MARGIN; more += MARGIN) {
         size_t sheet_words = 8 * due.rows + more, binding_words = due.rows + more;
@@ -247,8 +202,6 @@ static void refused(int line, struct body body, uint32_t number, size_t index) {
     writers_refused(line, body, 0, 0, number, index);
     walk_refused(line, body, (struct course){WORDS(9), 9}, number, index);
     walk_refused(line, body, (struct course){NO_WORDS, 0}, number, index);
-    list_refused(line, body, MOST_ROWS, number, index);
-    list_refused(line, body, 0, number, index);
 }
 
 /* {goto M;L:for{}} */
@@ -677,204 +630,6 @@ static void test_walks_refused(void) {
     walk_refused(__LINE__, body, (struct course){WORDS(9), 9}, ZESTHULL_DEPTH, 100);
 }
 
-/* Rows by kind, detail, name and size, for the unreachable call. */
-struct row {
-    uint32_t kind, detail, name, size;
-};
-
-/* The body of these rows, with the names L and M. */
-static struct body of_rows(const struct row *rows, size_t count) {
-    for (size_t r = 0; r < count; r++) {
-        put_row(r, rows[r].kind, rows[r].size);
-        many_rows[5 * r + 1] = rows[r].detail;
-        many_rows[5 * r + 3] = rows[r].name;
-    }
-    return to_walk(many_rows, 5 * count);
-}
-
-#define ROWS(...) \
-    of_rows((const struct row[]){__VA_ARGS__}, \
-            sizeof((const struct row[]){__VA_ARGS__}) / sizeof(struct row))
-
-/* The kinds, and the details of a Branch. */
-enum {
-    EMPTY = 2, LABELED = 3, EXPR = 4, RETURN = 10, BRANCH = 11, BLOCK = 12, IF = 13, CASE = 14,
-    SWITCH = 15, TYPE_SWITCH = 16, COMM = 17, SELECT = 18, FOR = 19, RANGE = 20
-};
-enum { BREAK = 0, CONTINUE = 1, GOTO = 2, FALLTHROUGH = 3 };
-
-/* Every row reached; the Block of a switch or Select counts as its statement does. */
-static void test_nothing_unreachable(void) {
-    listed(__LINE__, to_walk(if_rows, 15), NO_WORDS);
-    listed(__LINE__, to_walk(loop_rows, 80), NO_WORDS);
-    listed(__LINE__, to_walk(nest_rows, 85), NO_WORDS);
-    listed(__LINE__, to_walk(goto_rows, 60), NO_WORDS);
-    for (uint32_t kind = SWITCH; kind <= RANGE; kind++)
-        if (kind != COMM) listed(__LINE__, lone(kind), NO_WORDS);
-    listed(__LINE__, nested(100), NO_WORDS);
-    listed(__LINE__, flat(2000), NO_WORDS);
-}
-
-/* After a return, a panic, a goto, and a For without condition or break. */
-static void test_unreachable_after(void) {
-    /* return; ; ; */
-    listed(__LINE__, ROWS({BLOCK, 0, 0, 4}, {RETURN, 0, 0, 1}, {EMPTY, 0, 0, 1}, {EMPTY, 0, 0, 1}),
-           WORDS(2, 3));
-    /* { panic(1); f() }; g() */
-    listed(__LINE__,
-           ROWS({BLOCK, 0, 0, 5}, {BLOCK, 0, 0, 3}, {EXPR, 1, 0, 1}, {EXPR, 0, 0, 1}, {EXPR, 0, 0, 1}),
-           WORDS(3, 4));
-    /* goto L; f(); L: g() */
-    listed(__LINE__,
-           ROWS({BLOCK, 0, 0, 5}, {BRANCH, GOTO, 1, 1}, {EXPR, 0, 0, 1}, {LABELED, 0, 1, 2},
-                {EXPR, 0, 0, 1}),
-           WORDS(2));
-    /* for { f() }; g(); h(), then the same with a condition */
-    listed(__LINE__,
-           ROWS({BLOCK, 0, 0, 6}, {FOR, 0, 0, 3}, {BLOCK, 0, 0, 2}, {EXPR, 0, 0, 1}, {EXPR, 0, 0, 1},
-                {EXPR, 0, 0, 1}),
-           WORDS(4, 5));
-    listed(__LINE__,
-           ROWS({BLOCK, 0, 0, 6}, {FOR, 1, 0, 3}, {BLOCK, 0, 0, 2}, {EXPR, 0, 0, 1}, {EXPR, 0, 0, 1},
-                {EXPR, 0, 0, 1}),
-           NO_WORDS);
-    /* L: for { for { continue L; break } }; g(), then the same with break L */
-    listed(__LINE__,
-           ROWS({BLOCK, 0, 0, 9}, {LABELED, 0, 1, 7}, {FOR, 0, 0, 6}, {BLOCK, 0, 0, 5}, {FOR, 0, 0, 4},
-                {BLOCK, 0, 0, 3}, {BRANCH, CONTINUE, 1, 1}, {BRANCH, BREAK, 0, 1}, {EXPR, 0, 0, 1}),
-           WORDS(7, 8));
-    listed(__LINE__,
-           ROWS({BLOCK, 0, 0, 9}, {LABELED, 0, 1, 7}, {FOR, 0, 0, 6}, {BLOCK, 0, 0, 5}, {FOR, 0, 0, 4},
-                {BLOCK, 0, 0, 3}, {BRANCH, BREAK, 1, 1}, {BRANCH, BREAK, 0, 1}, {EXPR, 0, 0, 1}),
-           WORDS(7));
-    /* for { if c { break; f() }; continue; g() }; h() */
-    listed(__LINE__,
-           ROWS({BLOCK, 0, 0, 10}, {FOR, 0, 0, 8}, {BLOCK, 0, 0, 7}, {IF, 0, 0, 4}, {BLOCK, 0, 0, 3},
-                {BRANCH, BREAK, 0, 1}, {EXPR, 0, 0, 1}, {BRANCH, CONTINUE, 0, 1}, {EXPR, 0, 0, 1},
-                {EXPR, 0, 0, 1}),
-           WORDS(6, 8));
-}
-
-/* After an If with else, a switch with a default and a Select, whose parts all return. */
-static void test_unreachable_after_parts(void) {
-    listed(__LINE__,
-           ROWS({BLOCK, 0, 0, 7}, {IF, 1, 0, 5}, {BLOCK, 0, 0, 2}, {RETURN, 0, 0, 1}, {BLOCK, 0, 0, 2},
-                {RETURN, 0, 0, 1}, {EXPR, 0, 0, 1}),
-           WORDS(6));
-    listed(__LINE__,
-           ROWS({BLOCK, 0, 0, 7}, {IF, 1, 0, 5}, {BLOCK, 0, 0, 2}, {RETURN, 0, 0, 1}, {BLOCK, 0, 0, 2},
-                {EMPTY, 0, 0, 1}, {EXPR, 0, 0, 1}),
-           NO_WORDS);
-    static const uint32_t statements[3][2] = {{SWITCH, CASE}, {TYPE_SWITCH, CASE}, {SELECT, COMM}};
-    for (size_t i = 0; i < COUNT(statements); i++) {
-        uint32_t kind = statements[i][0], clause = statements[i][1];
-        for (uint32_t has_default = 0; has_default <= 1; has_default++) {
-            struct body body = ROWS({BLOCK, 0, 0, 8}, {kind, 0, 0, 6}, {BLOCK, 0, 0, 5},
-                                    {clause, 0, 0, 2}, {RETURN, 0, 0, 1}, {clause, has_default, 0, 2},
-                                    {RETURN, 0, 0, 1}, {EXPR, 0, 0, 1});
-            listed(__LINE__, body, (const uint32_t[]){7}, kind == SELECT || has_default);
-        }
-    }
-}
-
-/* Labels that unreachable gotos alone name, and rows that lead to one another but to which none of
-   the others does. */
-static void test_unreachable_labels(void) {
-    /* return; goto L; f(); L: g() */
-    listed(__LINE__,
-           ROWS({BLOCK, 0, 0, 6}, {RETURN, 0, 0, 1}, {BRANCH, GOTO, 1, 1}, {EXPR, 0, 0, 1},
-                {LABELED, 0, 1, 2}, {EXPR, 0, 0, 1}),
-           WORDS(2, 3, 4, 5));
-    /* L: f(); return; goto L */
-    listed(__LINE__,
-           ROWS({BLOCK, 0, 0, 5}, {LABELED, 0, 1, 2}, {EXPR, 0, 0, 1}, {RETURN, 0, 0, 1},
-                {BRANCH, GOTO, 1, 1}),
-           WORDS(4));
-    /* return; M: goto L; L: goto M, then the same with goto L first */
-    listed(__LINE__,
-           ROWS({BLOCK, 0, 0, 6}, {RETURN, 0, 0, 1}, {LABELED, 0, 2, 2}, {BRANCH, GOTO, 1, 1},
-                {LABELED, 0, 1, 2}, {BRANCH, GOTO, 2, 1}),
-           WORDS(2, 3, 4, 5));
-    listed(__LINE__,
-           ROWS({BLOCK, 0, 0, 6}, {BRANCH, GOTO, 1, 1}, {LABELED, 0, 2, 2}, {BRANCH, GOTO, 1, 1},
-                {LABELED, 0, 1, 2}, {BRANCH, GOTO, 2, 1}),
-           NO_WORDS);
-    /* goto M; L: for c { continue L }; f(); M: return */
-    listed(__LINE__,
-           ROWS({BLOCK, 0, 0, 9}, {BRANCH, GOTO, 2, 1}, {LABELED, 0, 1, 4}, {FOR, 1, 0, 3},
-                {BLOCK, 0, 0, 2}, {BRANCH, CONTINUE, 1, 1}, {EXPR, 0, 0, 1}, {LABELED, 0, 2, 2},
-                {RETURN, 0, 0, 1}),
-           WORDS(2, 3, 4, 5, 6));
-}
-
-/* Clauses, and the Blocks around them. */
-static void test_unreachable_clauses(void) {
-    /* return; switch { case a: f(); default: g() }; h() */
-    listed(__LINE__,
-           ROWS({BLOCK, 0, 0, 9}, {RETURN, 0, 0, 1}, {SWITCH, 0, 0, 6}, {BLOCK, 0, 0, 5},
-                {CASE, 0, 0, 2}, {EXPR, 0, 0, 1}, {CASE, 1, 0, 2}, {EXPR, 0, 0, 1}, {EXPR, 0, 0, 1}),
-           WORDS(2, 3, 4, 5, 6, 7, 8));
-    /* switch { case a: return; switch {}; default: } */
-    listed(__LINE__,
-           ROWS({BLOCK, 0, 0, 8}, {SWITCH, 0, 0, 7}, {BLOCK, 0, 0, 6}, {CASE, 0, 0, 4},
-                {RETURN, 0, 0, 1}, {SWITCH, 0, 0, 2}, {BLOCK, 0, 0, 1}, {CASE, 1, 0, 1}),
-           WORDS(5, 6));
-    /* switch { case a: fallthrough; ; default: f() } */
-    listed(__LINE__,
-           ROWS({BLOCK, 0, 0, 8}, {SWITCH, 0, 0, 7}, {BLOCK, 0, 0, 6}, {CASE, 0, 0, 3},
-                {BRANCH, FALLTHROUGH, 0, 1}, {EMPTY, 0, 0, 1}, {CASE, 1, 0, 2}, {EXPR, 0, 0, 1}),
-           WORDS(5));
-    /* select {}; f(), then switch {}; f() */
-    listed(__LINE__,
-           ROWS({BLOCK, 0, 0, 4}, {SELECT, 0, 0, 2}, {BLOCK, 0, 0, 1}, {EXPR, 0, 0, 1}), WORDS(3));
-    listed(__LINE__,
-           ROWS({BLOCK, 0, 0, 4}, {SWITCH, 0, 0, 2}, {BLOCK, 0, 0, 1}, {EXPR, 0, 0, 1}), NO_WORDS);
-    /* select {}; select {} */
-    listed(__LINE__,
-           ROWS({BLOCK, 0, 0, 5}, {SELECT, 0, 0, 2}, {BLOCK, 0, 0, 1}, {SELECT, 0, 0, 2},
-                {BLOCK, 0, 0, 1}),
-           WORDS(3, 4));
-}
-
-/* return, then all rows but the first two; a goto over all rows but the label that is last. */
-static void test_unreachable_of_many(void) {
-    static uint32_t rows[MOST_ROWS];
-    for (uint32_t i = 0; i < MOST_ROWS; i++) rows[i] = i + 2;
-    struct body body = flat(2000);
-    put_row(1, RETURN, 1);
-    listed(__LINE__, body, rows, 1998);
-    put_row(1, BRANCH, 1);
-    put_row(1998, LABELED, 2);
-    many_rows[5 * 1 + 1] = GOTO;
-    many_rows[5 * 1 + 3] = many_rows[5 * 1998 + 3] = 1;
-    listed(__LINE__, to_walk(many_rows, 10000), rows, 1996);
-    body = nested(100);
-    put_row(99, RETURN, 1);
-    listed(__LINE__, body, NO_WORDS);
-}
-
-/* 7 comes after the refusals of the body, which `refused` tries with a list of no words, and before 8,
-   which `list_faulty` tries. */
-static void test_lists_refused(void) {
-    list_faulty(__LINE__, example());
-    /* return; break */
-    list_faulty(__LINE__, ROWS({BLOCK, 0, 0, 3}, {RETURN, 0, 0, 1}, {BRANCH, BREAK, 0, 1}));
-    /* return; L: ; */
-    list_faulty(__LINE__,
-                ROWS({BLOCK, 0, 0, 4}, {RETURN, 0, 0, 1}, {LABELED, 0, 1, 2}, {EMPTY, 0, 0, 1}));
-    struct body body = flat(2000);
-    put_row(1999, BRANCH, 1);
-    list_faulty(__LINE__, body);
-    body = nested(101);
-    many_rows[5 * 100] = BRANCH;
-    refused(__LINE__, body, ZESTHULL_DEPTH, 100);
-    /* switch { default: default: }; break */
-    refused(__LINE__,
-            ROWS({BLOCK, 0, 0, 6}, {SWITCH, 0, 0, 4}, {BLOCK, 0, 0, 3}, {CASE, 1, 0, 1},
-                 {CASE, 1, 0, 1}, {BRANCH, BREAK, 0, 1}),
-            ZESTHULL_DEFAULTS, 4);
-}
-
 static void named(int line, struct body body, size_t number, size_t length, size_t start) {
     size_t offset;
     size_t got = zesthull_name(body.pairs, body.pair_words, body.bytes, body.byte_count, number,
@@ -921,13 +676,6 @@ int main(void) {
     test_walks();
     test_walks_without_items();
     test_walks_refused();
-    test_nothing_unreachable();
-    test_unreachable_after();
-    test_unreachable_after_parts();
-    test_unreachable_labels();
-    test_unreachable_clauses();
-    test_unreachable_of_many();
-    test_lists_refused();
     test_names();
     if (failures) {
         printf("%zu of %zu checks failed\n", failures, checks);

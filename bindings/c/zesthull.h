@@ -1,6 +1,6 @@
 /* The marks of a Go function body: label faults (the sheet), where labels bind, whether unlabelled
    branches are well placed, and whether the body is terminating (the verdict). And walks of it by
-   given choices, and the rows that no walk comes to.
+   given choices.
 
    A body is its row words (five a row: kind, detail, position, name, size), its pair words (two a
    name: offset, length) and its name bytes, each lent as a pointer and a count.
@@ -23,8 +23,8 @@
 extern "C" {
 #endif
 
-/* 0.13.0: major * 1,000,000 + minor * 1,000 + patch. */
-#define ZESTHULL_VERSION 13000
+/* 0.12.0: major * 1,000,000 + minor * 1,000 + patch. */
+#define ZESTHULL_VERSION 12000
 
 /* In the order in which they are tested: 10 comes after 5 and before 6. */
 enum zesthull_refusals {
@@ -36,7 +36,7 @@ enum zesthull_refusals {
     ZESTHULL_SHAPE = 5,      /* a row's size, parent or children, by the row */
     ZESTHULL_DEFAULTS = 10,  /* two defaults in one switch or select, by the row of the second */
     ZESTHULL_DEPTH = 6,      /* a row over 100 deep, by the row */
-    ZESTHULL_TOO_SHORT = 7,  /* sheet under 8 words a row, bindings or list under 1 word a row */
+    ZESTHULL_TOO_SHORT = 7,  /* sheet under 8 words a row, or bindings under 1 word a row */
     ZESTHULL_FAULTY = 8,     /* sheet not empty, or a row badly placed */
     ZESTHULL_CHOICE = 9      /* a choice out of range when it is met, by its index from 0 */
 };
@@ -90,15 +90,6 @@ uint32_t zesthull_walk(const uint32_t *rows, size_t row_words,
                        const uint8_t *bytes, size_t byte_count,
                        const uint32_t *choices, size_t choice_count, size_t limit,
                        size_t *value, size_t *steps, size_t *used);
-
-/* The unreachable rows: it writes the rows that no choices bring a walk to, however many steps it
-   makes, each once, ascending. The Block of a switch or Select counts as reached whenever its
-   statement is. `out` has room for one word a row of the body; the value is how many are written, and
-   words past them stay. Refused as the walk is, and with 7, before 8, where `out` is shorter. */
-uint32_t zesthull_unreachable(const uint32_t *rows, size_t row_words,
-                              const uint32_t *pairs, size_t pair_words,
-                              const uint8_t *bytes, size_t byte_count,
-                              uint32_t *out, size_t out_words, size_t *value);
 
 /* The bytes of a name: returns the length of the name's pair, and writes the pair's offset, where in
    `bytes` the name starts, through `offset`. Both are 0 where there is no such name: for number 0,

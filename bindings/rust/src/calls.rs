@@ -34,10 +34,6 @@ mod exports {
             bytes: *const u8, byte_count: usize, choices: *const u32, choice_count: usize,
             limit: usize, value: *mut usize, steps: *mut usize, used: *mut usize,
         ) -> u32;
-        pub fn zesthull_unreachable(
-            rows: *const u32, row_words: usize, pairs: *const u32, pair_words: usize,
-            bytes: *const u8, byte_count: usize, out: *mut u32, out_words: usize, value: *mut usize,
-        ) -> u32;
         pub fn zesthull_name(
             pairs: *const u32, pair_words: usize, bytes: *const u8, byte_count: usize,
             number: usize, offset: *mut usize,
@@ -109,12 +105,6 @@ pub fn walk(
 ) -> u32 {
     let (choices, choice_count) = (choices.as_ptr(), choices.len());
     with_body!(zesthull_walk, body, choices, choice_count, limit, value, steps, used)
-}
-
-#[inline]
-pub fn unreachable(body: Body, out: &mut [u32], value: &mut usize) -> u32 {
-    let (out, out_words) = (out.as_mut_ptr(), out.len());
-    with_body!(zesthull_unreachable, body, out, out_words, value)
 }
 
 #[inline]

@@ -1,6 +1,6 @@
 //! The marks of a Go function body: label faults (the sheet), where labels bind, whether unlabelled
 //! branches are well placed, and whether the body is terminating (the verdict). And walks of it by
-//! given choices, and the rows that no walk comes to.
+//! given choices.
 //!
 //! Each function answers on any words: a body that isn't well-formed gets a [`Refusal`], and then no
 //! lent buffer is changed. The calls themselves are proved; here they are only made safe to name.
@@ -50,7 +50,7 @@ impl fmt::Display for Refusal {
             5 => write!(f, "row {index} breaks the shape of its kind"),
             10 => write!(f, "row {index} is a second default in its switch or select"),
             6 => write!(f, "row {index} is over 100 deep"),
-            7 => write!(f, "sheet shorter than 8 words a row, bindings or list shorter than 1 word a row"),
+            7 => write!(f, "sheet shorter than 8 words a row, or bindings shorter than 1 word a row"),
             8 => write!(f, "the sheet isn't empty, or a row is badly placed"),
             _ => write!(f, "choice {index} is out of range where it is met"),
         }
@@ -145,22 +145,6 @@ pub fn walk(body: Body, choices: &[u32], limit: usize) -> Result<Walk, Refusal> 
     let (mut steps, mut used) = (0, 0);
     let place = told(|value| calls::walk(body, choices, limit, value, &mut steps, &mut used))?;
     Ok(Walk { place: place_of(place), steps, used })
-}
-
-/// The unreachable rows: writes the rows that no choices bring a walk to, however many steps it makes,
-/// each once, ascending, and answers how many there are. The Block of a switch or Select counts as
-/// reached whenever its statement is. `out` has room for one word a row; words past the list stay.
-///
-/// ```
-/// // {return; x()}
-/// let rows = [[12, 0, 1, 0, 3], [10, 0, 2, 0, 1], [4, 0, 3, 0, 1]];
-/// let body = zesthull::Body { rows: rows.as_flattened(), pairs: &[], bytes: &[] };
-/// let mut out = [9; 3];
-/// assert_eq!(zesthull::unreachable(body, &mut out), Ok(1));
-/// assert_eq!(out, [2, 9, 9]);
-/// ```
-pub fn unreachable(body: Body, out: &mut [u32]) -> Result<usize, Refusal> {
-    told(|value| calls::unreachable(body, out, value))
 }
 
 /// The bytes of a name, as a part of the caller's own; an empty part for number 0, for a number past

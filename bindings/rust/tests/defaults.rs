@@ -3,8 +3,13 @@
 
 mod common;
 
-use common::flow::STATEMENTS;
 use common::*;
+
+const CASE: u32 = 14;
+const COMM: u32 = 17;
+
+/// The statements that hold clauses, and the clauses that they hold.
+const STATEMENTS: [[u32; 2]; 3] = [[15, CASE], [16, CASE], [18, COMM]];
 
 /// A statement, or several in order, by kind, detail and size.
 type Rows = Vec<[u32; 3]>;

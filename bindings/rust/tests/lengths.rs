@@ -46,19 +46,6 @@ fn empty_slices() {
     }
 }
 
-/// The same for the list; the example has faults, which come after a list too short.
-#[test]
-fn empty_slices_of_the_list() {
-    for set in 0..1 << 4 {
-        let [rows, pairs, bytes, list] = [0, 1, 2, 3].map(|slice| set >> slice & 1 == 1);
-        let empty = [rows, pairs, bytes, list, false];
-        let (words, what) = (example_without(empty), format!("the example without {empty:?}"));
-        let (number, index) = refusal_without(empty).unwrap_or((8, 0));
-        let lent = if list { 0 } else { 5 };
-        expect_unlisted(&what, &words, lent, Refusal { number, index });
-    }
-}
-
 /// The same with the empty slices of the language, which lead to no memory.
 #[test]
 fn empty_slices_without_memory() {
@@ -70,7 +57,6 @@ fn empty_slices_without_memory() {
     assert_eq!(zesthull::labels(body, &mut [], &mut []), Err(refusal));
     assert_eq!(zesthull::marks(body, &mut [], &mut []), Err(refusal));
     assert_eq!(zesthull::walk(body, &[], 9), Err(refusal));
-    assert_eq!(zesthull::unreachable(body, &mut []), Err(refusal));
     let body = Body { rows: &[12, 0, 1, 0, 1], ..body };
     let refusal = Refusal { number: 7, index: 0 };
     assert_eq!(zesthull::refusal(body), Ok(()));
@@ -81,8 +67,6 @@ fn empty_slices_without_memory() {
     assert_eq!(zesthull::labels(body, &mut [0; 8], &mut [0]), Ok(0));
     let walk = Walk { place: Place::Brace, steps: 1, used: 0 };
     assert_eq!(zesthull::walk(body, &[], 9), Ok(walk));
-    assert_eq!(zesthull::unreachable(body, &mut []), Err(refusal));
-    assert_eq!(zesthull::unreachable(body, &mut [0]), Ok(0));
 }
 
 /// The first words of the example, and one more than it has: row 0 ends past a shorter body.
@@ -168,26 +152,6 @@ fn sheet_and_bindings() {
             assert_eq!(sheet, pattern_after(&[8, 7, 1, 0, 9, 9, 2, 0], sheet_words));
             assert_eq!(bindings, pattern_after(&[0, 0, 3, 0, 0], binding_words));
         }
-    }
-}
-
-/// Each length of the list: of the example, which has faults, and of { return; ; ; ; }.
-#[test]
-fn lists() {
-    let mut rows = flat(5);
-    rows[1][0] = RETURN;
-    let (faulty, words) = (example(), Words::new(&rows, &[]));
-    for lent in 0..=20 {
-        if lent < 5 {
-            let refusal = Refusal { number: 7, index: 0 };
-            expect_unlisted("the example", &faulty, lent, refusal);
-            expect_unlisted("return and Empties", &words, lent, refusal);
-            continue;
-        }
-        expect_unlisted("the example", &faulty, lent, Refusal { number: 8, index: 0 });
-        let mut list = pattern(lent);
-        assert_eq!(zesthull::unreachable(words.body(), &mut list), Ok(3));
-        assert_eq!(list, pattern_after(&[2, 3, 4], lent));
     }
 }
 

@@ -81,22 +81,6 @@ fn all_sets_of_faults_of_a_walk() {
     }
 }
 
-/// The same for the unreachable call, which has 7, for its list, and 8, but no 9.
-#[test]
-fn all_sets_of_faults_of_a_list() {
-    for set in 0..1 << 9 {
-        let has = |number: u32| is_in(set, number);
-        let (words, lent) = (faulty(has), if has(7) { ROWS - 1 } else { ROWS });
-        match REFUSALS.into_iter().find(|&(number, _)| has(number)) {
-            Some((number, index)) => {
-                let what = format!("faults {set:09b}");
-                expect_unlisted(&what, &words, lent, Refusal { number, index });
-            }
-            None => assert_eq!(zesthull::unreachable(words.body(), &mut pattern(lent)), Ok(0)),
-        }
-    }
-}
-
 #[test]
 fn without_faults() {
     assert_eq!(zesthull::refusal(faulty(|_| false).body()), Ok(()));

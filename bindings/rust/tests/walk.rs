@@ -3,9 +3,34 @@
 
 mod common;
 
-use common::flow::*;
 use common::*;
 use zesthull::{Place, Refusal, Walk};
+
+const EXPR: u32 = 4;
+const CASE: u32 = 14;
+const SWITCH: u32 = 15;
+const TYPE_SWITCH: u32 = 16;
+const COMM: u32 = 17;
+const SELECT: u32 = 18;
+const FOR: u32 = 19;
+const RANGE: u32 = 20;
+
+const BREAK: u32 = 0;
+const CONTINUE: u32 = 1;
+const GOTO: u32 = 2;
+const FALLTHROUGH: u32 = 3;
+
+/// A body of rows given by kind, detail, name and size, with the names L and M.
+fn rows(rows: &[[u32; 4]]) -> Words {
+    let row = |&[kind, detail, name, size]: &[u32; 4]| [kind, detail, 1, name, size];
+    let rows: Vec<[u32; 5]> = rows.iter().map(row).collect();
+    Words::new(&rows, &["L", "M"])
+}
+
+/// A Block of one statement over a Block without items.
+fn lone(kind: u32, detail: u32) -> Words {
+    rows(&[[BLOCK, 0, 0, 3], [kind, detail, 0, 2], [BLOCK, 0, 0, 1]])
+}
 
 /// A state of a route.
 #[derive(Clone, Copy)]
@@ -286,7 +311,7 @@ fn fallthroughs() {
 /// with the innermost loop.
 #[test]
 fn unlabelled_branches() {
-    for [kind, clause] in STATEMENTS {
+    for [kind, clause] in [[SWITCH, CASE], [TYPE_SWITCH, CASE], [SELECT, COMM]] {
         // for { switch { case a: break; case b: continue }; return }
         let words = rows(&[
             [BLOCK, 0, 0, 10], [FOR, 0, 0, 9], [BLOCK, 0, 0, 8], [kind, 0, 0, 6], [BLOCK, 0, 0, 5],
@@ -433,7 +458,25 @@ fn at_the_limits() {
 /// 8: a fault on the sheet or a row badly placed, be it on the way or not, whatever is chosen.
 #[test]
 fn faulty_bodies() {
-    for (text, words) in bodies_with_a_fault() {
+    // switch x.(type) { case a: fallthrough; default: }
+    let in_type_switch = [
+        [TYPE_SWITCH, 0, 0, 5], [BLOCK, 0, 0, 4], [CASE, 0, 0, 2], [BRANCH, FALLTHROUGH, 0, 1],
+        [CASE, 1, 0, 1],
+    ];
+    let faulty: [(&str, &[[u32; 4]]); 8] = [
+        ("L: return", &[[LABELED, 0, 1, 2], [RETURN, 0, 0, 1]]),
+        ("goto L", &[[BRANCH, GOTO, 1, 1]]),
+        ("break L", &[[BRANCH, BREAK, 1, 1]]),
+        ("return; break", &[[RETURN, 0, 0, 1], [BRANCH, BREAK, 0, 1]]),
+        ("continue", &[[BRANCH, CONTINUE, 0, 1]]),
+        ("fallthrough", &[[BRANCH, FALLTHROUGH, 0, 1]]),
+        ("fallthrough in a type switch", &in_type_switch),
+        ("goto L; break", &[[BRANCH, GOTO, 1, 1], [BRANCH, BREAK, 0, 1]]),
+    ];
+    for (text, items) in faulty {
+        let size = 3 + items.len() as u32;
+        let head = [[BLOCK, 0, 0, size], [IF, 0, 0, 2], [BLOCK, 0, 0, 1]];
+        let words = rows(&[&head, items].concat());
         for choices in [&[][..], &[0], &[1], &[9]] {
             for limit in [0, 1, 2, usize::MAX] {
                 let walk = zesthull::walk(words.body(), choices, limit);

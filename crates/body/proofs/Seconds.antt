@@ -72,13 +72,13 @@ module _ {w : List ℕ} {p e : ℕ} (z : e ≡ end w p) where
     no_default y r s = not-before r s.child s.default (omega (arith, item-before s.child))
 
     module _ (o : f ≡ e → ⊥) {n : ℕ} (y : n ≡ size w f) (g : 0 < n) {k : ℕ} (b : NextDefault w e (f + n) k) where
-      is-row : f < e
-      is-row = omega (arith, a.high)
+      is_row : f < e
+      is_row = omega (arith, a.high)
 
       -- a second default is a default after the first
       after_first : (r : ℕ) → SecondChild w p r → Item w (end w p) (end w f) r
       after_first r s =
-          item-after (first-child is-row) s.child
+          item-after (first-child is_row) s.child
           (elim (dec_lt s.earlier f) [
             | yes l ↦ absurd (not-before s.earlier s.earlier_child s.earlier_default l)
             | no l ↦ omega (arith, s.before)
@@ -96,12 +96,12 @@ module _ {w : List ℕ} {p e : ℕ} (z : e ≡ end w p) where
           let i : Item w (end w p) (end w f) k = rw (← y, ← z) (b.item l) in
           let m = item_from i in (
             record {
-              child = item-later (first-child is-row) i;
+              child = item-later (first-child is_row) i;
               default = b.default l;
               earlier = f;
               before = omega arith;
-              earlier_child = first-child is-row;
-              earlier_default = a.default is-row;
+              earlier_child = first-child is_row;
+              earlier_default = a.default is_row;
             },
             lower,
           )

@@ -5,7 +5,6 @@ use placing::Placing;
 use refusals::Refusal;
 use returns::Verdict;
 use testing::show;
-use unreachable::UnreachableAnswer;
 
 pub fn refusal(rows: &[u32], pairs: &[u32], bytes: &[u8]) {
     show::text(b"refusal ");
@@ -73,11 +72,11 @@ pub fn sheet(rows: &[u32], pairs: &[u32], bytes: &[u8]) {
     }
 }
 
-// The first `count` words, if there are so many.
-fn first(words: &[u32], count: usize) {
-    if count <= words.len() {
+// The words of the first `count` rows, if there are so many.
+fn first(bindings: &[u32], count: usize) {
+    if count <= bindings.len() {
         show::text(b" ");
-        show::words(&words[0..count], b"");
+        show::words(&bindings[0..count], b"");
     }
 }
 
@@ -89,22 +88,5 @@ pub fn bindings(rows: &[u32], pairs: &[u32], bytes: &[u8]) {
     match label::labels(rows, pairs, bytes, &mut sheet, &mut bindings) {
         LabelAnswer::Refused(r) => refused(r),
         LabelAnswer::Faults(_) => first(&bindings, count),
-    }
-}
-
-fn list(words: &[u32], count: usize) {
-    if count == 0 {
-        show::text(b" none");
-        return;
-    }
-    first(words, count);
-}
-
-pub fn unreachable_rows(rows: &[u32], pairs: &[u32], bytes: &[u8]) {
-    let mut words = [0u32; 128];
-    show::text(b"unreachable");
-    match unreachable::unreachable_rows(rows, pairs, bytes, &mut words) {
-        UnreachableAnswer::Refused(r) => refused(r),
-        UnreachableAnswer::Listed(n) => list(&words, n),
     }
 }

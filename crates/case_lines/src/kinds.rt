@@ -12,7 +12,6 @@ pub enum Kind {
     Sheet,
     Bindings,
     Walk,
-    Unreachable,
     Empty,
     Remark,
 }
@@ -60,9 +59,6 @@ pub fn kind_of(line: &[u8]) -> Kind {
     }
     if first_word_is(line, b"walk") {
         return Kind::Walk;
-    }
-    if first_word_is(line, b"unreachable") {
-        return Kind::Unreachable;
     }
     Kind::Remark
 }

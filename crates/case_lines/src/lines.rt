@@ -64,7 +64,6 @@ fn print(line: &[u8], kind: Kind, rows: &[u32], pairs: &[u32], bytes: &[u8]) {
         Kind::Sheet => answers::sheet(rows, pairs, bytes),
         Kind::Bindings => answers::bindings(rows, pairs, bytes),
         Kind::Walk => walks::walk(line, rows, pairs, bytes),
-        Kind::Unreachable => answers::unreachable_rows(rows, pairs, bytes),
         _ => show::text(line),
     }
 }

@@ -3,3 +3,4 @@ pub mod BoundTo
 pub mod Referred
 pub mod Falling
 pub mod Places
+pub mod Written

@@ -23,7 +23,7 @@ use Rattle.destinations.proofs.Falling.{fallthrough-step}
 pub formed : {w p b : List ℕ} → Faultless w p b → Body w p b
 formed {w} {p} {b} f = facts.body w p b f.well_formed
 
-pub all-lawful : {w p b : List ℕ} → Faultless w p b → AllLawful w p b
+all-lawful : {w p b : List ℕ} → Faultless w p b → AllLawful w p b
 all-lawful {w} {p} {b} f = (sheet-law w p b f.well_formed).0 f.no_fault
 
 -- where the row n ends, as the code has it

@@ -1,11 +1,14 @@
--- What it is worked out from where a Branch goes.
+-- Where each Branch goes.
 -- Assumes nothing.
-use Rattle.std.specs.Prelude.{◌≡◌, List, ℕ, ◌≤◌, ◌<◌, length, get_or}
+use Rattle.std.specs.Prelude.{◌≡◌, true, List, ℕ, ◌≤◌, ◌<◌, length, get_or}
+use Rattle.std.proofs.Math.Option.{some}
 use Rattle.rules.specs.Rows.{row_count}
-use Rattle.rules.specs.Class.{is_breakable, is_loop, is_case}
+use Rattle.rules.specs.Class.{is_breakable, is_loop, is_case, is_branch, class}
 use Rattle.rules.specs.Labels.{binding}
-use Rattle.rules.specs.Walking.{Faultless}
-use Rattle.around.specs.Around.{Afters, Enclosing}
+use Rattle.rules.specs.Runner.{at, step}
+use Rattle.rules.specs.Walking.{Faultless, place_of}
+use Rattle.afters.specs.Afters.{Afters}
+use Rattle.enclosing.specs.Enclosing.{Enclosing}
 
 -- each row's word is its binding
 pub record Bound (w p b t : List ℕ) : Type 0 where
@@ -24,3 +27,11 @@ pub record Tables (w p b bindings afters breakables loops cases : List ℕ) : Ty
   pub loop_rows : Enclosing w is_loop loops
   pub cases_room : row_count w ≤ length cases
   pub case_rows : Enclosing w is_case cases
+
+-- each of the first x words is the place that its row goes to, if that is a Branch
+abbrev pub DestinationsBelow : List ℕ → List ℕ → List ℕ → List ℕ → ℕ → Type 0
+DestinationsBelow w p b t x = (r : ℕ) → r < x → is_branch (class w r) ≡ true → step w p b (at r) 0 ≡ some (place_of (get_or t r 0))
+
+-- so is each row's word
+abbrev pub Destinations : List ℕ → List ℕ → List ℕ → List ℕ → Type 0
+Destinations w p b t = DestinationsBelow w p b t (row_count w)

@@ -1,14 +1,16 @@
-// Where a Branch of a body without a fault goes. A labelled break or continue refers to the
+// Where each Branch of a body without a fault goes. A labelled break or continue refers to the
 // statement below the label that it binds to, an unlabelled one to the innermost around it; a goto goes
 // to its label, a fallthrough to where its Case ends.
-ghost use Rattle.std.specs.Prelude.{◌≡◌, zero, suc, ◌-◌, ◌<◌};
+ghost use Rattle.std.specs.Prelude.{◌≡◌, zero, suc, ◌-◌, ◌≤◌, ◌<◌, length};
 ghost use Rattle.std.proofs.Math.Option.{some};
 ghost use Rattle.rules.specs.Rows.{row_count, kind};
 ghost use Rattle.rules.specs.Runner.{at, step};
-ghost use Rattle.rules.specs.Walking.{place_of};
-ghost use Rattle.destinations.specs.Destinations.{Tables};
+ghost use Rattle.rules.specs.Walking.{Faultless, place_of};
+ghost use Rattle.parents.specs.Parents.{Parents};
+ghost use Rattle.afters.specs.Afters.{Afters};
+ghost use Rattle.destinations.specs.Destinations.{Bound, Tables, Destinations};
 
-use rows::{RowNumber, details};
+use rows::{RowNumber, details, kinds};
 
 fn wide(number: u16) -> usize
     ensures { result ≡ number }
@@ -29,7 +31,7 @@ fn statement(binding: u32, inner: u16) -> usize
 }
 
 // The place that the Branch goes to.
-pub fn destination(
+fn destination(
     rows: &[u32],
     pairs: &[u32],
     bytes: &[u8],
@@ -58,4 +60,65 @@ pub fn destination(
             next + 2
         }
     }
+}
+
+// Writes the place that each Branch goes to, by the tables of the rows around each row.
+fn write_destinations(
+    rows: &[u32],
+    pairs: &[u32],
+    bytes: &[u8],
+    bindings: &[u32],
+    afters: &[u16],
+    breakables: &[u16],
+    loops: &[u16],
+    cases: &[u16],
+    destinations: &mut [u16],
+)
+    requires tables { Tables rows.now pairs.now bytes.now bindings.now afters.now breakables.now loops.now cases.now }
+    requires rows_in_bounds { row_count rows.now ≤ length destinations.old }
+    ensures { Destinations rows.now pairs.now bytes.now destinations.new }
+{
+    let count = rows.len() / 5;
+    let mut r = 0;
+    while r < count {
+        if rows::kind(rows, RowNumber(r)) == kinds::BRANCH {
+            let place = destination(
+                rows, pairs, bytes, bindings, afters, breakables, loops, cases, r,
+            );
+            destinations[r] = place as u16;
+        }
+        r += 1;
+    }
+}
+
+// Writes the place that each Branch goes to, at its own row.
+pub fn destinations_of(
+    rows: &[u32],
+    pairs: &[u32],
+    bytes: &[u8],
+    bindings: &[u32],
+    parents: &[u16],
+    afters: &[u16],
+    destinations: &mut [u16],
+)
+    requires faultless { Faultless rows.now pairs.now bytes.now × Bound rows.now pairs.now bytes.now bindings.now }
+    requires parents { Parents rows.now parents.now × Afters rows.now afters.now }
+    requires rows_in_bounds { (row_count rows.now ≤ length parents.now) × (row_count rows.now ≤ length afters.now) × (row_count rows.now ≤ length destinations.old) }
+    ensures { Destinations rows.now pairs.now bytes.now destinations.new }
+{
+    let mut breakables = [0u16; 2000];
+    let mut loops = [0u16; 2000];
+    let mut cases = [0u16; 2000];
+    enclosing::enclosing_of(rows, parents, &mut breakables, &mut loops, &mut cases);
+    write_destinations(
+        rows,
+        pairs,
+        bytes,
+        bindings,
+        afters,
+        &breakables,
+        &loops,
+        &cases,
+        destinations,
+    );
 }

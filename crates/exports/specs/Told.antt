@@ -10,7 +10,7 @@ abbrev pub told_refusal : Option (ℕ × ℕ) → ℕ × ℕ
 told_refusal none = (0, 0)
 told_refusal (some r) = r
 
--- how many rows the sheet has, or the list of unreachable rows
+-- the sheet's row count
 abbrev pub told_count : Answer ℕ → ℕ × ℕ
 told_count (refused n i) = (n, i)
 told_count (answered count) = (0, count)

@@ -5,7 +5,6 @@ ghost use Rattle.std.specs.Prelude.{◌≡◌, ◌≤◌};
 ghost use Rattle.rules.specs.Refusals.{refusal};
 ghost use Rattle.rules.specs.Calls.{placing_call, verdict_call, label_call};
 ghost use Rattle.rules.specs.Walking.{place_word, walk_call};
-ghost use Rattle.rules.specs.Unreachable.{unreachable_call};
 ghost use Rattle.names.specs.Place.{place};
 ghost use Rattle.marking.specs.Marks.{marks_call};
 ghost use Rattle.runner.specs.Given.{state_of};
@@ -19,7 +18,6 @@ use placing::Placing;
 use refusals::{index_of, number_of};
 use returns::Verdict;
 use runner::{Place, WalkAnswer};
-use unreachable::UnreachableAnswer;
 
 fn wide(word: u32) -> usize
     ensures { result ≡ word }
@@ -239,32 +237,6 @@ pub extern "C" fn zesthull_walk(
     }
 }
 
-// The unreachable rows. The value is how many are listed.
-#[unsafe(no_mangle)]
-pub extern "C" fn zesthull_unreachable(
-    rows: &[u32],
-    pairs: &[u32],
-    bytes: &[u8],
-    out: &mut [u32],
-    value: &mut usize,
-) -> u32
-    ensures number { result ≡ (told_count (unreachable_call rows.now pairs.now bytes.now out.old).answer).0 }
-    ensures value { value.new
-        ≡ (told_count (unreachable_call rows.now pairs.now bytes.now out.old).answer).1 }
-    ensures out { out.new ≡ (unreachable_call rows.now pairs.now bytes.now out.old).words }
-{
-    match unreachable::unreachable_rows(rows, pairs, bytes, out) {
-        UnreachableAnswer::Refused(r) => {
-            *value = index_of(r);
-            number_of(r)
-        }
-        UnreachableAnswer::Listed(count) => {
-            *value = count;
-            0
-        }
-    }
-}
-
 // The bytes of a name, as a part of the caller's own: its length, and where it starts through
 // `offset`; 0 and 0 where there is no such name.
 #[unsafe(no_mangle)]
@@ -295,7 +267,7 @@ pub extern "C" fn zesthull_name(
 // The version of the calls: this is its one place. CHANGELOG.md says what each version changed.
 const MAJOR: u32 = 0;
 
-const MINOR: u32 = 13;
+const MINOR: u32 = 12;
 
 const PATCH: u32 = 0;
 

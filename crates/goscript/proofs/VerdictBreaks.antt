@@ -13,7 +13,6 @@ use borrow.Author.Tests.{not-true}
 use Rattle.rules.specs.Scan.{lowest}
 use Rattle.rules.specs.Rows.{row_count, name, size, end, here, later}
 use Rattle.rules.specs.Class.{plain, declaration, empty, labeled, stop, break, continue, goto, fallthrough, if, if_else, one_of, is_breakable, class}
-use Rattle.rules.specs.Class.{is_clause_block}
 use Rattle.rules.specs.Names.{same_name}
 use Rattle.rules.specs.Refusals.{nothing, holding}
 use Rattle.rules.specs.Scope.{is_list, is_block}
@@ -24,7 +23,7 @@ use Rattle.rules.proofs.Test.{clash, and-true}
 use Rattle.rules.proofs.Every.{every}
 use Rattle.rules.proofs.Nesting.{item_from}
 use Rattle.rules.proofs.Shape.{opens}
-use Rattle.rules.proofs.ClassRules.{by_one, class-rule, only-opened}
+use Rattle.rules.proofs.ClassRules.{is_clause_block, by_one, class-rule, only-opened}
 use Rattle.breaks.specs.Leaves.{label_number, leaves, any_leaves}
 use Rattle.breaks.proofs.Ranges.{closed-rest, closed-item}
 use Rattle.breaks.proofs.Leaving as leaving

@@ -10,14 +10,14 @@ use native.Mathlib.Omega.{arith}
 use borrow.Author.Tests.{not-true}
 use Rattle.rules.specs.Scan.{lowest}
 use Rattle.rules.specs.Rows.{row_count, name, size, end, here, later}
-use Rattle.rules.specs.Class.{labeled, block, if_else, for, one_of, is_breakable, is_statement, is_clause_block, class}
+use Rattle.rules.specs.Class.{labeled, block, if_else, for, one_of, is_breakable, is_statement, class}
 use Rattle.rules.specs.Scope.{is_list}
 use Rattle.rules.specs.Verdict.{verdict as verdict_of}
 use Rattle.rules.specs.Body.{Body}
 use Rattle.rules.proofs.Test.{clash}
 use Rattle.rules.proofs.Every.{every, is_one}
 use Rattle.rules.proofs.RowNames.{labeled-named}
-use Rattle.rules.proofs.ClassRules.{is_never, is_always, class-rule, by-rule}
+use Rattle.rules.proofs.ClassRules.{is_never, is_always, is_clause_block, class-rule, by-rule}
 use Rattle.rules.proofs.Terminating as rules
 use Rattle.rules.proofs.Terminating.{terminating-never, terminating-always}
 use Rattle.breaks.specs.Leaves.{label_number}

@@ -10,12 +10,12 @@ use Prim.Native.Nat.{ℕ, zero, suc, ◌<◌}
 use native.Mathlib.Omega.{arith}
 use Rattle.rules.specs.Scan.{lowest}
 use Rattle.rules.specs.Rows.{end}
-use Rattle.rules.specs.Class.{Class, labeled, break, if, if_else, one_of, is_breakable, is_clause_block, class}
+use Rattle.rules.specs.Class.{Class, labeled, break, if, if_else, one_of, is_breakable, class}
 use Rattle.rules.specs.Names.{name_bytes}
 use Rattle.rules.specs.Scope.{is_list, holds_items}
 use Rattle.rules.proofs.Test.{case-of}
 use Rattle.rules.proofs.Every.{every}
-use Rattle.rules.proofs.ClassRules.{by_one, class-rule}
+use Rattle.rules.proofs.ClassRules.{is_clause_block, by_one, class-rule}
 use Rattle.breaks.specs.Leaves.{label_number}
 use Rattle.goscript.specs.Build.{Build}
 use Rattle.goscript.specs.Syntax.{ident}

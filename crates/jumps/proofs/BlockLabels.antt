@@ -16,7 +16,7 @@ use lib.Dec.{ltb}
 use borrow.Author.Tests.{ltb-true, lt-ltb, not-true, not-false}
 use Rattle.rules.specs.Scan.{lowest, highest}
 use Rattle.rules.specs.Rows.{row_count, end, Child}
-use Rattle.rules.specs.Class.{Class, labeled, one_of, is_clause_block, class}
+use Rattle.rules.specs.Class.{Class, labeled, one_of, class}
 use Rattle.rules.specs.Body.{Body, fits}
 use Rattle.rules.specs.Scope.{is_list, is_block, innermost, list_of}
 use Rattle.rules.specs.Labels.{is_some, is_class, is_label, labels, last_in_run, in_block_of, target}
@@ -24,7 +24,7 @@ use Rattle.rules.proofs.Test.{case-of, case-found, clash, and-true, or-true}
 use Rattle.rules.proofs.Every.{every, is_one}
 use Rattle.rules.proofs.Scan.{lowest-found, lowest-first, lowest-none, found-lowest, none-lowest, highest-found, highest-last, found-highest}
 use Rattle.rules.proofs.ClassTests.{one-is, one-not}
-use Rattle.rules.proofs.ClassRules.{class-rule, child-rule, parent-rule}
+use Rattle.rules.proofs.ClassRules.{is_clause_block, class-rule, child-rule, parent-rule}
 use Rattle.rules.proofs.Nesting.{item-before, item_from, child-around, ends-before}
 use Rattle.rules.proofs.Around.{Innermost, innermost-found, innermost-last, innermost-none}
 use Rattle.rules.proofs.LabelRows.{is-labels}

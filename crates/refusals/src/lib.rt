@@ -21,7 +21,7 @@ pub enum Refusal {
     SecondDefault(RowNumber),
     // 6: the first row over 100 deep
     Depth(RowNumber),
-    // 7: a lent buffer is too short: sheet under 8 words a row, bindings or list under 1 word a row
+    // 7: a lent buffer is too short: sheet under 8 words a row, or bindings under 1 word a row
     TooShort,
     // 8: the sheet isn't empty, or a row is badly placed
     Faulty,

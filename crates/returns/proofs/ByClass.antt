@@ -11,7 +11,7 @@ use native.Mathlib.Decide.{dec_lt}
 use borrow.Author.Tests.{not-true}
 use Rattle.rules.specs.Scan.{lowest}
 use Rattle.rules.specs.Rows.{row_count, size, end, Item, here, later}
-use Rattle.rules.specs.Class.{Class, empty, labeled, if_else, select, for, one_of, is_switch, is_clause_block, class}
+use Rattle.rules.specs.Class.{Class, empty, labeled, if_else, select, for, one_of, is_switch, class}
 use Rattle.rules.specs.Scope.{is_list, only_empty}
 use Rattle.rules.specs.Labels.{is_class}
 use Rattle.rules.specs.Verdict.{has_default, has_own_break, terminating, terminating_list, terminating_clauses}
@@ -19,7 +19,7 @@ use Rattle.rules.specs.Body.{Body, fits}
 use Rattle.rules.proofs.Test.{case-of, or-true}
 use Rattle.rules.proofs.Every.{every, is_one}
 use Rattle.rules.proofs.Shape.{opens}
-use Rattle.rules.proofs.ClassRules.{is_never, is_always, opens-holds, class-rule, child-rule}
+use Rattle.rules.proofs.ClassRules.{is_clause_block, is_never, is_always, opens-holds, class-rule, child-rule}
 use Rattle.rules.proofs.Nesting.{item-before, item_from}
 use Rattle.rules.proofs.Around.{only-empty, all-empty}
 use Rattle.rules.proofs.Terminating.{terminating-never, terminating-always, terminating-labeled, terminating-statements, terminating-clauses}

@@ -11,7 +11,7 @@ use borrow.Author.Tests.{not-true}
 use Rattle.rules.specs.Scan.{lowest}
 use Rattle.rules.specs.Rows.{row_count, kind, detail, size, end, Item, here}
 use Rattle.rules.specs.Class.{Class, break, block, case_block, comm_block, select, one_of, is_breakable, is_case, is_comm, is_default, class_of, base}
-use Rattle.rules.specs.Class.{detail_allowed, is_clause_block, class}
+use Rattle.rules.specs.Class.{detail_allowed, class}
 use Rattle.rules.specs.Scope.{is_list}
 use Rattle.rules.specs.Labels.{is_class}
 use Rattle.rules.specs.Verdict.{any_default, has_default, has_own_break}
@@ -19,7 +19,7 @@ use Rattle.rules.specs.Body.{Body}
 use Rattle.rules.proofs.Every.{every, implies, implied, same, same-eq}
 use Rattle.rules.proofs.Details.{of-allowed}
 use Rattle.rules.proofs.Shape.{opens}
-use Rattle.rules.proofs.ClassRules.{class-rule, child-rule, opens-holds}
+use Rattle.rules.proofs.ClassRules.{is_clause_block, class-rule, child-rule, opens-holds}
 use Rattle.rules.proofs.RowNames.{base-class}
 use Rattle.rules.proofs.Terminating.{any-default-more, any-default-none, has-default}
 use Rattle.breaks.specs.Leaves.{label_number, Closed, any_leaves}

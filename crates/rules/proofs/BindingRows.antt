@@ -4,12 +4,12 @@ use mathlib.Core.Path.{◌≡◌, sym, ◌∙◌, ap}
 use mathlib.Core.Bool.{true, false, ◌&&◌}
 use mathlib.Core.List.{List}
 use mathlib.Core.Option.{some}
-use Prim.Native.Nat.{ℕ, suc, ◌≤◌, ◌<◌}
+use Prim.Native.Nat.{ℕ, suc, ◌<◌}
 use native.Mathlib.Omega.{arith}
 use Rattle.rules.specs.Rows.{row_count}
 use Rattle.rules.specs.Class.{goto, is_branch, class}
 use Rattle.rules.specs.Labels.{is, is_class, word, is_label, labels, declared, goto_label, pending, valid_target, labelled_break, binding}
-use Rattle.rules.proofs.Test.{case-of, case-found, clash, true-and}
+use Rattle.rules.proofs.Test.{case-of, clash, true-and}
 use Rattle.rules.proofs.ClassTests.{one-is, one-not}
 use Rattle.rules.proofs.Found.{found-is, word-found}
 use Rattle.rules.proofs.LabelRows.{other-label, is_declared_lem}
@@ -86,19 +86,3 @@ module _ (w p b : List ℕ) where
       let (d, e) = some-goto-label w p b g c q in
       let f = binding-goto g (branch-label g t) c ∙ ap word e in
       absurd (omega arith))
-
--- ---- a binding word is 0 or 1 + a row
-module _ (w p b : List ℕ) (r : ℕ) (l : r < row_count w) where
-  pub binding-most : binding w p b r ≤ row_count w
-  unfolding binding
-  binding-most = case-of (is_label w p b r)
-      (λ t. case-of (is (declared w p b r) r) (λ u. rw (t, u, binding) l) (λ u. rw (t, u, binding) (omega arith)))
-      (λ t. case-of (is_class w goto r)
-      (λ u. case-found (goto_label w p b r)
-      (λ d e. rw (t, u, e, binding) (goto-label w p b r d e).0)
-      (λ e. rw (t, u, e, binding) (omega arith)))
-      (λ u. case-of (labelled_break w p b r && valid_target w p b r)
-      (λ v. case-found (declared w p b r)
-      (λ d e. rw (t, u, v, e, binding) (is_declared_lem w p b r d e).0)
-      (λ e. rw (t, u, v, e, binding) (omega arith)))
-      (λ v. rw (t, u, v, binding) (omega arith))))

@@ -7,8 +7,8 @@ use mathlib.Core.List.{List, [], ◌∷◌}
 use lib.Dec.{eqb}
 use borrow.Author.Tests.{not-true}
 use Rattle.rules.specs.Scan.{lowest}
-use Rattle.rules.specs.Class.{Class, plain, declaration, empty, labeled, stop, break, continue, goto, fallthrough, if, if_else}
-use Rattle.rules.specs.Class.{switch, type_switch, select, for, for_cond, code, one_of, is_switch, is_loop, is_breakable, is_clause_block}
+use Rattle.rules.specs.Class.{Class, plain, declaration, empty, labeled, stop, break, continue, goto, fallthrough, case_block, comm_block, if, if_else}
+use Rattle.rules.specs.Class.{switch, type_switch, select, for, for_cond, code, one_of, is_switch, is_breakable}
 use Rattle.rules.specs.Refusals.{body, holding}
 use Rattle.rules.specs.Scope.{is_list}
 use Rattle.rules.specs.Body.{fits}
@@ -29,6 +29,10 @@ pub by_one : (X : Type 0) (ds : List Class) (c : Class) → one_of ds c ≡ true
 by_one X [] c t = absurd (clash (cc))
 by_one X (d ∷ ds) c t = λ g. case-of (eqb (code c) (code d)) (λ e. settled X ds c (g (is-class c d e))) (λ e. by_one X ds c (rw e at t))
 
+-- the Block of a switch or Select
+abbrev pub is_clause_block : Class → Bool
+is_clause_block = one_of (case_block ∷ comm_block ∷ [])
+
 -- ---- a rule of all classes, of a child by its parent, and of a parent by its child
 pub class-rule : (P Q : Class → Bool) → every 23 (λ i. implies (P (class_at i)) (Q (class_at i))) ≡ true → (c : Class) → P c ≡ true → Q c ≡ true
 class-rule P Q e c = implied (P c) (Q c) (of-class (λ c. implies (P c) (Q c)) e c)
@@ -45,10 +49,6 @@ parent-rule P Q e q c t u = implied (P c && fits q c) (Q q) (of-classes (λ q c.
 pub only-opened : (q c : Class) → opens q ≡ false → fits q c ≡ true → is_clause_block c ≡ false
 unfolding every lowest
 only-opened q c n t = not-true (is_clause_block c) (child-rule (λ q. not (opens q)) (λ c. not (is_clause_block c)) refl q c (rw n) t)
-
-pub list-no-loop : (c : Class) → is_list c ≡ true → is_loop c ≡ false
-unfolding every lowest
-list-no-loop c t = not-true (is_loop c) (class-rule is_list (λ c. not (is_loop c)) refl c t)
 
 pub opens-holds : (c : Class) → opens c ≡ true → holding c ≡ body
 opens-holds c t = ⊎_elim

@@ -14,8 +14,6 @@ use Rattle.rules.specs.Placing.{in_expression_switch, ends_case, well_placed, ba
 use Rattle.rules.specs.Verdict.{label_on, refers_to, has_own_break, any_default, has_default, terminating, terminating_list, terminating_clauses, verdict}
 use Rattle.rules.specs.Tally.{labelled_branches, bound_branches, unbound_rows, unbound_words}
 use Rattle.rules.specs.Walking.{is_fork, walk_on, is_faulty, walk_call, fork_choices}
-use Rattle.rules.specs.Rounds.{table_after, holds_after}
-use Rattle.rules.specs.Unreachable.{is_reached, counts_reached, unreachable, unreachable_call}
 use Rattle.rules.specs.Runner.{climb, after, break_to, continue_to, goto_to, item_at, item_count, clause_count, choices, step}
 
 unfoldable pub computed : Type 0
@@ -25,5 +23,5 @@ unfolding lowest highest how_many parent depth detail_allowed class_of base clas
     in_block_of target valid_target labelled_break binding jumps_over repeated report unresolved used declared_at unused sheet bindings in_expression_switch ends_case
     well_placed badly_placed placing label_on refers_to has_own_break any_default has_default terminating terminating_list terminating_clauses verdict climb after break_to
     continue_to goto_to item_at item_count clause_count choices step labelled_branches bound_branches unbound_rows unbound_words is_fork walk_on is_faulty walk_call
-    fork_choices table_after holds_after is_reached counts_reached unreachable unreachable_call
+    fork_choices
 computed = Unit {0}

@@ -11,7 +11,7 @@ use lib.Dec.{ltb, eqb}
 use borrow.Author.Tests.{lt-ltb, ltb-true, eqb-true, eq-eqb}
 use Rattle.rules.specs.Scan.{lowest, how_many}
 use Rattle.rules.specs.Rows.{row_count, end, parent, same_parent, Child}
-use Rattle.rules.specs.Class.{Class, is_default, base, following, is_clause_block, class}
+use Rattle.rules.specs.Class.{Class, is_default, base, following, class}
 use Rattle.rules.specs.Refusals.{bad_shape, second_default}
 use Rattle.rules.specs.Body.{Sized, Detailed, fits, SecondChild, OneDefault}
 use Rattle.rules.proofs.Test.{case-of, case-found, clash, and-true, true-and}
@@ -19,7 +19,7 @@ use Rattle.rules.proofs.Scan.{some-counted, counted-some, lowest-none}
 use Rattle.rules.proofs.Every.{every, implies, implied, of-classes}
 use Rattle.rules.proofs.Nesting.{item-before, child_parent, parent_child}
 use Rattle.rules.proofs.Shape.{child_within, child_fits}
-use Rattle.rules.proofs.ClassRules.{parent-rule}
+use Rattle.rules.proofs.ClassRules.{is_clause_block, parent-rule}
 
 -- ---- the same parent
 module _ (w : List ℕ) (q r : ℕ) where

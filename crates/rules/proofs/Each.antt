@@ -1,5 +1,5 @@
 -- Lists of reports: nothing is reported over all numbers exactly when nothing is at each, of two lists when nothing is in both, and under a test when it fails.
--- Where each number gives one value, there are as many values, each at its number.
+-- Where each number gives one word, there are as many words, each at its number.
 -- Assumes nothing.
 use mathlib.Core.Path.{◌≡◌, refl, ◌∙◌}
 use mathlib.Core.Bool.{Bool, true, false}
@@ -48,20 +48,17 @@ module _ {A : Type 0} where
     none_each zero h = refl
     none_each (suc n) h = none-append (each f n) (f n) (none_each n (λ k l. h k (omega arith))) (h n (omega arith))
 
--- ---- one value for each number below n
-module _ {A : Type 0} (f : ℕ → A) where
+-- ---- one word for each number below n
+module _ (f : ℕ → ℕ) where
   pub each-length : (n : ℕ) → length (each (λ g. f g ∷ []) n) ≡ n
   each-length zero = rw (each-zero (λ g. f g ∷ []))
   each-length (suc n) = rw (each-suc (λ g. f g ∷ []) n, length-append) (omega (arith, each-length n))
 
-  pub each-value : (d : A) (n g : ℕ) → g < n → get_or (each (λ g. f g ∷ []) n) g d ≡ f g
-  each-value d zero g h = absurd (omega arith)
-  each-value d (suc n) g h = elim (ℕ_discrete g n) [
-    | yes e ↦ rw (each-suc (λ g. f g ∷ []) n, e) (get_or_at (each (λ g. f g ∷ []) n) (f n) [] d n (each-length n))
+  pub each_at : (n g : ℕ) → g < n → get_or (each (λ g. f g ∷ []) n) g 0 ≡ f g
+  each_at zero g h = absurd (omega arith)
+  each_at (suc n) g h = elim (ℕ_discrete g n) [
+    | yes e ↦ rw (each-suc (λ g. f g ∷ []) n, e) (get_or_at (each (λ g. f g ∷ []) n) (f n) [] 0 n (each-length n))
     | no o ↦
         rw (each-suc (λ g. f g ∷ []) n)
-        (get_or-append (each (λ g. f g ∷ []) n) (f n ∷ []) d g (omega (arith, each-length n)) ∙ each-value d n g (omega arith))
+        (get_or-append (each (λ g. f g ∷ []) n) (f n ∷ []) 0 g (omega (arith, each-length n)) ∙ each_at n g (omega arith))
   ]
-
-pub each_at : (f : ℕ → ℕ) (n g : ℕ) → g < n → get_or (each (λ g. f g ∷ []) n) g 0 ≡ f g
-each_at f = each-value f 0

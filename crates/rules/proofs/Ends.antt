@@ -8,12 +8,12 @@ use native.Mathlib.Omega.{arith}
 use native.Mathlib.Decide.{dec_lt}
 use borrow.Author.Tests.{not-true}
 use Rattle.rules.specs.Rows.{end, Item, here, later}
-use Rattle.rules.specs.Class.{empty, labeled, if_else, switch, type_switch, select, for, for_cond, is_switch, is_breakable, is_clause_block, class}
+use Rattle.rules.specs.Class.{empty, labeled, if_else, switch, type_switch, select, for, for_cond, is_switch, is_breakable, class}
 use Rattle.rules.specs.Scope.{is_list, only_empty}
 use Rattle.rules.specs.Verdict.{has_default, has_own_break, terminating, terminating_list, terminating_clauses}
 use Rattle.rules.proofs.Test.{case-of, clash, and-true}
 use Rattle.rules.proofs.Nesting.{item-before, item_from}
-use Rattle.rules.proofs.ClassRules.{is_never, by_one, breakable-one}
+use Rattle.rules.proofs.ClassRules.{is_clause_block, is_never, by_one, breakable-one}
 use Rattle.rules.proofs.Around.{AllEmpty, only-empty, all-empty}
 use Rattle.rules.proofs.Terminating.{terminating-zero, terminating-never, terminating-labeled, terminating-statements, terminating-clauses}
 use Rattle.rules.proofs.Terminating.{terminating-if_else, terminating-switch, terminating-select, terminating-for, list-zero, list-none, list-last}

@@ -16,7 +16,7 @@ use Rattle.rules.specs.Scan.{lowest}
 use Rattle.rules.specs.Rows.{row_count, size, end, here, later, Child}
 use Rattle.rules.specs.Class.{Class, plain, declaration, empty, labeled, stop, break, continue, goto, fallthrough, block, case_block, comm_block, if}
 use Rattle.rules.specs.Class.{if_else, case, default_case, comm, default_comm, switch, type_switch, select, for, for_cond}
-use Rattle.rules.specs.Class.{one_of, is_switch, is_loop, is_case, is_clause_block, class}
+use Rattle.rules.specs.Class.{one_of, is_switch, is_loop, is_case, class}
 use Rattle.rules.specs.Scope.{is_list, next_case}
 use Rattle.rules.specs.Body.{Body, fits}
 use Rattle.rules.specs.Placing.{placing}
@@ -29,7 +29,7 @@ use Rattle.rules.proofs.Test.{case-of, case-found, clash, or-true}
 use Rattle.rules.proofs.Every.{every, is_one}
 use Rattle.rules.proofs.Shape.{opens}
 use Rattle.rules.proofs.Nesting.{item-next}
-use Rattle.rules.proofs.ClassRules.{by_one, class-rule, child-rule, only-opened, opens-holds}
+use Rattle.rules.proofs.ClassRules.{is_clause_block, by_one, class-rule, child-rule, only-opened, opens-holds}
 use Rattle.rules.proofs.Going.{clause-count, item-at, default-clause, after-root, after-in-loop, after-in-list, after_last, after-in-other}
 use Rattle.rules.proofs.Final.{child-in, parent_in}
 use Rattle.rules.proofs.Onward.{loop-ordinary, ordinary-row, list-opens}

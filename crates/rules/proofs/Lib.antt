@@ -59,15 +59,4 @@ pub mod Inside
 pub mod WalkSteps
 pub mod Walking
 pub mod WalkUsed
-pub mod Rounds
-pub mod Listed
-pub mod Reaching
-pub mod Unreachable
-pub mod Breaks
-pub mod ToBrace
-pub mod UnreachableCall
-pub mod UnreachableBodies
-pub mod UnreachableUsed
-pub mod ExactLaw
-pub mod ExactUsed
 pub mod FallthroughUsed

@@ -12,9 +12,9 @@ use native.Mathlib.Decide.{ℕ_discrete}
 use lib.Dec.{eqb}
 use borrow.Author.Tests.{not-true}
 use Rattle.rules.specs.Scan.{lowest}
-use Rattle.rules.specs.Rows.{row_count, kind, detail, end, parent, Child}
-use Rattle.rules.specs.Class.{Class, empty, labeled, case_block, one_of, is_branch, switch, type_switch, is_switch, is_breakable, is_loop, is_case}
-use Rattle.rules.specs.Class.{is_clause_block, is_statement, detail_allowed, class_of, following, base, class}
+use Rattle.rules.specs.Rows.{row_count, kind, detail, end, Child}
+use Rattle.rules.specs.Class.{Class, empty, labeled, block, case_block, one_of, is_branch, switch, type_switch, is_switch, is_breakable, is_loop, is_case}
+use Rattle.rules.specs.Class.{is_statement, detail_allowed, class_of, following, base, class}
 use Rattle.rules.specs.Scope.{is_list, holds_items, around, innermost, list_of}
 use Rattle.rules.specs.Refusals.{body, holding}
 use Rattle.rules.specs.Body.{Body, fits}
@@ -23,9 +23,8 @@ use Rattle.rules.proofs.Scan.{none-highest, found-highest}
 use Rattle.rules.proofs.Every.{every, same, same-eq, class_at, of-classes, is_one}
 use Rattle.rules.proofs.ByKind.{among, switches, kind-case, kind-switch, kind-expression-switch, kind-labeled, kind-empty, kind-jump}
 use Rattle.rules.proofs.Classes.{no_block}
-use Rattle.rules.proofs.Nesting.{item-before, item_from, child-around, ends-before, child_parent}
-use Rattle.rules.proofs.Shape.{opens}
-use Rattle.rules.proofs.ClassRules.{by_one, class-rule, child-rule, parent-rule, opens-holds}
+use Rattle.rules.proofs.Nesting.{item-before, item_from, child-around, ends-before}
+use Rattle.rules.proofs.ClassRules.{by_one, class-rule, child-rule, parent-rule}
 use Rattle.rules.proofs.Around.{around-true, true-around, Innermost, innermost-found, innermost-last, innermost-none}
 use Rattle.rules.proofs.Final.{only_item, parent_in}
 
@@ -137,10 +136,6 @@ switch-parent : (q c : Class) → one_of (case_block ∷ []) c ≡ true → fits
 unfolding every lowest
 switch-parent = parent-rule (one_of (case_block ∷ [])) is_switch refl
 
-opens-parent : (q c : Class) → is_clause_block c ≡ true → fits q c ≡ true → opens q ≡ true
-unfolding every lowest
-opens-parent = parent-rule is_clause_block opens refl
-
 pub switch-body : (c : Class) → is_switch c ≡ true → holding c ≡ body
 switch-body c t = by_one _ (switch ∷ type_switch ∷ []) c t (λ e. rw e) (λ e. rw e)
 
@@ -226,24 +221,18 @@ module _ {w p b : List ℕ} (body : Body w p b) where
       let same : j ≡ s = cc in
       rw (← same) (is_one (class w j) case_block u, q, d)
 
-  -- the row right before the Block of a switch or Select is its statement
-  pub block-statement : (s : ℕ) → s < row_count w → is_clause_block (class w s) ≡ true
-      → (q : ℕ) × (s ≡ suc q) × (end w s ≡ end w q) × (parent w s ≡ some q) × (fits (class w q) (class w s) ≡ true)
-  block-statement s m t =
+  -- the row right before such a Block is its switch
+  pub block-switch : (s : ℕ) → s < row_count w → class w s ≡ case_block → (q : ℕ) × (s ≡ suc q) × (end w s ≡ end w q) × (is_switch (class w q) ≡ true)
+  block-switch s m k =
       let some-row : 0 < s = elim (ℕ_discrete s 0) [
-        | yes z ↦ let x : false ≡ true = rw (z, body.root_class) at t in absurd (clash (cc))
+        | yes z ↦ let x : case_block ≡ block = sym k ∙ rw z body.root_class in absurd (clash (cc))
         | no n ↦ omega arith
       ] in
       let (q, l, h, x) = parent_in body s m some-row in
-      let fit = body.child_fits q s l x in
-      let one = (body.one_block q l (opens-holds (class w q) (opens-parent (class w q) (class w s) t fit))).1 in
+      let u = switch-parent (class w q) (class w s) (rw k) (body.child_fits q s l x) in
+      let one = (body.one_block q l (switch-body (class w q) u)).1 in
       let same = only_item one x in
-      (q, same, ap (end w) same ∙ one, child_parent body.sized body.child_within q s l x, fit)
-
-  pub block-switch : (s : ℕ) → s < row_count w → class w s ≡ case_block → (q : ℕ) × (s ≡ suc q) × (end w s ≡ end w q) × (is_switch (class w q) ≡ true)
-  block-switch s m k =
-      let (q, same, ends, _, fit) = block-statement s m (rw k) in
-      (q, same, ends, switch-parent (class w q) (class w s) (rw k) fit)
+      (q, same, ap (end w) same ∙ one, u)
 
   -- and the innermost switch around each of its Cases
   pub case-switch : (c s : ℕ) → c < row_count w → is_case (class w c) ≡ true → innermost w (one_of (case_block ∷ [])) c ≡ some s

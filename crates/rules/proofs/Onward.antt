@@ -11,7 +11,7 @@ use native.Mathlib.Decide.{ℕ_discrete, dec_lt}
 use borrow.Author.Tests.{not-true}
 use Rattle.rules.specs.Scan.{lowest}
 use Rattle.rules.specs.Rows.{row_count, end, Child}
-use Rattle.rules.specs.Class.{Class, empty, one_of, is_loop, is_clause_block, class}
+use Rattle.rules.specs.Class.{Class, empty, one_of, is_loop, class}
 use Rattle.rules.specs.Scope.{is_list}
 use Rattle.rules.specs.Body.{Body}
 use Rattle.rules.specs.Runner.{at, after}
@@ -19,7 +19,7 @@ use Rattle.rules.proofs.Test.{case-of, clash}
 use Rattle.rules.proofs.Nesting.{item_from, item-next}
 use Rattle.rules.proofs.Shape.{opens}
 use Rattle.rules.proofs.Every.{every}
-use Rattle.rules.proofs.ClassRules.{class-rule, only-opened}
+use Rattle.rules.proofs.ClassRules.{is_clause_block, class-rule, only-opened}
 use Rattle.rules.proofs.Around.{AllEmpty}
 use Rattle.rules.proofs.Going.{after-in-loop, after-in-list, after_last, after-in-other}
 use Rattle.rules.proofs.Final.{Final, whole, below, child-in, parent_in, final-parent}

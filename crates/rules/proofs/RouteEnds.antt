@@ -31,7 +31,7 @@ module _ (w p b : List ℕ) where
     longer-walk [] (go d n f done) = go d n f (go c h e done)
     longer-walk (x ∷ l) (go d n f r) = go d n f (longer-walk l r)
 
-    pub longer-route : (l : List State) → Route w p b (l ++ s ∷ []) → Route w p b (l ++ s ∷ t ∷ [])
+    longer-route : (l : List State) → Route w p b (l ++ s ∷ []) → Route w p b (l ++ s ∷ t ∷ [])
     longer-route [] (i, r) = (i, go c h e done)
     longer-route (q ∷ l) (i, r) = (i, longer-walk l r)
 

@@ -14,7 +14,6 @@ use Rattle.rules.specs.Scan.{lowest}
 use Rattle.rules.specs.Rows.{row_count, size, end, here, later, Child}
 use Rattle.rules.specs.Class.{Class, plain, declaration, empty, labeled, stop, break, continue, goto, fallthrough, block, case_block, comm_block, if}
 use Rattle.rules.specs.Class.{if_else, case, default_case, comm, default_comm, switch, type_switch, select, for, for_cond, one_of, is_switch, class}
-use Rattle.rules.specs.Class.{is_clause_block}
 use Rattle.rules.specs.Refusals.{holding, body as one}
 use Rattle.rules.specs.Body.{Body, fits}
 use Rattle.rules.specs.Scope.{is_list, next_case}
@@ -26,7 +25,7 @@ use Rattle.rules.specs.Law.{AllLawful}
 use Rattle.rules.proofs.Test.{case-of, clash}
 use Rattle.rules.proofs.Every.{every}
 use Rattle.rules.proofs.Shape.{opens}
-use Rattle.rules.proofs.ClassRules.{is_never, child-rule, only-opened, opens-holds}
+use Rattle.rules.proofs.ClassRules.{is_clause_block, is_never, child-rule, only-opened, opens-holds}
 use Rattle.rules.proofs.Terminating.{refers-inside, no-break}
 use Rattle.rules.proofs.Going.{clause-count, item-at}
 use Rattle.rules.proofs.Ends.{Ends, empty-ends, all-empty-ends, never_ends, labeled-ends, statements-end, switch-ends, breakable-ends}

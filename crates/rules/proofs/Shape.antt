@@ -11,8 +11,7 @@ use lib.Dec.{leb, eqb}
 use borrow.Author.Tests.{lt-ltb, le-ltb, leb-true, eqb-true, not-false}
 use Rattle.rules.specs.Scan.{lowest}
 use Rattle.rules.specs.Rows.{row_count, kind, detail, size, end, Item, here, later, Child}
-use Rattle.rules.specs.Class.{Class, block, select, code, one_of, is_switch, is_clause_block, detail_allowed, class_of, base}
-use Rattle.rules.specs.Class.{following, class}
+use Rattle.rules.specs.Class.{Class, block, case_block, comm_block, select, code, one_of, is_switch, detail_allowed, class_of, base, following, class}
 use Rattle.rules.specs.Refusals.{Holding, nothing, statement, body, branches, statements, cases, comms, holding, may_hold, at_least, children_fit, is_body}
 use Rattle.rules.specs.Refusals.{bad_shape}
 use Rattle.rules.specs.Body.{Sized, Detailed, fits, OneChild, TwoChildren}
@@ -48,7 +47,7 @@ module _ (w : List ℕ) (h : Holding) (e : ℕ) where
 
 -- the class by its own words of a row of class p
 abbrev pub base_of : Class → Class
-base_of p = elim (is_clause_block p) [ true ↦ block | false ↦ p ]
+base_of p = elim (one_of (case_block ∷ comm_block ∷ []) p) [ true ↦ block | false ↦ p ]
 
 -- a row after which a Block is the Block of it
 abbrev pub opens : Class → Bool
@@ -97,29 +96,29 @@ follows-other b c n = is-class (following b c) c
     (of-classes (λ b c. implies (not (opens b)) (eqb (code (following b c)) (code c))) refl b c) (rw n))
 
 -- what follows any row is, by its own words, itself
-base_back : (b c : Class) → is_clause_block c ≡ false → base_of (following b c) ≡ c
+base_back : (b c : Class) → one_of (case_block ∷ comm_block ∷ []) c ≡ false → base_of (following b c) ≡ c
 unfolding every lowest
 base_back b c n = is-class (base_of (following b c)) c
-    (implied (not (is_clause_block c)) (eqb (code (base_of (following b c))) (code c))
-    (of-classes (λ b c. implies (not (is_clause_block c)) (eqb (code (base_of (following b c))) (code c))) refl b c) (rw n))
+    (implied (not (one_of (case_block ∷ comm_block ∷ []) c)) (eqb (code (base_of (following b c))) (code c))
+    (of-classes (λ b c. implies (not (one_of (case_block ∷ comm_block ∷ []) c)) (eqb (code (base_of (following b c))) (code c))) refl b c) (rw n))
 
 opens-body : (c : Class) → opens c ≡ true → is_body' (holding c) ≡ true
 unfolding every lowest
 opens-body c = implied (opens c) (is_body' (holding c)) (of-class (λ c. implies (opens c) (is_body' (holding c))) refl c)
 
-not-clause-base : (c : Class) → is_clause_block c ≡ false → base_of c ≡ c
+not-clause-base : (c : Class) → one_of (case_block ∷ comm_block ∷ []) c ≡ false → base_of c ≡ c
 not-clause-base c n = rw (n, base_of)
 
 opens-class : (c : Class) → opens (base_of c) ≡ true → opens c ≡ true
 unfolding every lowest
 opens-class c = implied (opens (base_of c)) (opens c) (of-class (λ c. implies (opens (base_of c)) (opens c)) refl c)
 
-not-clause-block : (k d : ℕ) → detail_allowed k d ≡ true → is_clause_block (class_of k d) ≡ false
+not-clause-block : (k d : ℕ) → detail_allowed k d ≡ true → one_of (case_block ∷ comm_block ∷ []) (class_of k d) ≡ false
 unfolding every lowest detail_allowed class_of
 not-clause-block k d t =
     let s = allowed-small k d t in
-    let n = every-pair 21 4 (λ k d. not (is_clause_block (class_of k d))) refl k d s.0 s.1 in
-    case-of (is_clause_block (class_of k d)) (λ a. let z : false ≡ true = rw a at n in absurd (clash (cc))) (λ a. a)
+    let n = every-pair 21 4 (λ k d. not (one_of (case_block ∷ comm_block ∷ []) (class_of k d))) refl k d s.0 s.1 in
+    case-of (one_of (case_block ∷ comm_block ∷ []) (class_of k d)) (λ a. let z : false ≡ true = rw a at n in absurd (clash (cc))) (λ a. a)
 
 is_body_lem : (h : Holding) → is_body' h ≡ true → h ≡ body
 is_body_lem nothing t = absurd (clash (cc))
@@ -189,7 +188,7 @@ module _ (w : List ℕ) (sized : Sized w) (detailed : Detailed w) (shaped : (r :
   one_block r l e = only_child body r l e (omega arith) (λ c. refl)
 
   -- ---- the class of a child
-  not-clause : (r : ℕ) → r < row_count w → is_clause_block (base w r) ≡ false
+  not-clause : (r : ℕ) → r < row_count w → one_of (case_block ∷ comm_block ∷ []) (base w r) ≡ false
   unfolding base
   not-clause r l = not-clause-block (kind w r) (detail w r) (detailed r l)
 

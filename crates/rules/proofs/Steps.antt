@@ -17,7 +17,7 @@ use Rattle.rules.specs.Body.{Sized, OneChild, Body}
 use Rattle.rules.specs.Refusals.{holding, body}
 use Rattle.rules.specs.Class.{Class, plain, declaration, empty, labeled, stop, break, continue, goto, fallthrough, block, case_block, comm_block, if}
 use Rattle.rules.specs.Class.{if_else, case, default_case, comm, default_comm, switch, type_switch, select, for, for_cond, code, one_of, is_switch, is_loop}
-use Rattle.rules.specs.Class.{is_case, is_default, is_clause_block, detail_allowed, class_of, base, following, class}
+use Rattle.rules.specs.Class.{is_case, is_default, detail_allowed, class_of, base, following, class}
 use Rattle.rules.specs.Scope.{is_list, around, innermost, list_of, in_list_of, next_case}
 use Rattle.rules.specs.Labels.{word, labels, goto_label, binding}
 use Rattle.rules.specs.Verdict.{label_on, refers_to, any_default, has_default}
@@ -306,7 +306,7 @@ module _ (w : List ℕ) where
     past-if-or-labeled = past_up (if ∷ if_else ∷ labeled ∷ []) (refl, (refl, (refl, tt)))
 
   -- "or after the switch or Select for a clause;": the clause s, the Block k and the switch or Select r
-  pub past-clause : (s k r : ℕ) → parent w s ≡ some k → parent w k ≡ some r → is_clause_block (class w k) ≡ true
+  pub past-clause : (s k r : ℕ) → parent w s ≡ some k → parent w k ≡ some r → one_of (case_block ∷ comm_block ∷ []) (class w k) ≡ true
       → one_of (switch ∷ type_switch ∷ select ∷ []) (class w r) ≡ true → after w s ≡ after w r
   unfolding parent
   past-clause s k r e f t u =

@@ -12,14 +12,14 @@ use Rattle.rules.specs.Scan.{lowest}
 use Rattle.rules.specs.Rows.{name, size, end}
 use Rattle.rules.specs.Class.{plain, declaration, empty, labeled, stop, break, continue, goto, fallthrough, block, case_block, comm_block, if}
 use Rattle.rules.specs.Class.{if_else, case, default_case, comm, default_comm, switch, type_switch, select, for, for_cond, is_switch, is_breakable}
-use Rattle.rules.specs.Class.{is_default, is_clause_block, class}
+use Rattle.rules.specs.Class.{is_default, class}
 use Rattle.rules.specs.Scope.{is_list, around, innermost, only_empty}
 use Rattle.rules.specs.Labels.{is, is_class, same_names}
 use Rattle.rules.specs.Verdict.{any_default, has_default, label_on, refers_to, has_own_break, terminating, terminating_list, terminating_clauses, verdict}
 use Rattle.rules.proofs.Every.{is_one}
 use Rattle.rules.proofs.Test.{case-found, clash, and-true}
 use Rattle.rules.proofs.Scan.{lowest-none, lowest-found}
-use Rattle.rules.proofs.ClassRules.{is_never, is_always, by_one}
+use Rattle.rules.proofs.ClassRules.{is_clause_block, is_never, is_always, by_one}
 use Rattle.rules.proofs.Around.{around-true, true-around, Innermost, innermost-found}
 
 -- ---- defaults

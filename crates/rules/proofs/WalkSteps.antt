@@ -13,7 +13,7 @@ use lib.ListN.{length, get_or}
 use borrow.Author.Tests.{lt-ltb, le-ltb, leb-true, eq-eqb}
 use Rattle.rules.specs.Scan.{lowest}
 use Rattle.rules.specs.Class.{Class, empty, case_block, comm_block, if}
-use Rattle.rules.specs.Class.{if_else, switch, type_switch, select, for_cond, one_of, is_clause_block, class}
+use Rattle.rules.specs.Class.{if_else, switch, type_switch, select, for_cond, one_of, class}
 use Rattle.rules.specs.Refusals.{WellFormed, causes, first_cause, refusal}
 use Rattle.rules.specs.Labels.{Fault, is_some, sheet}
 use Rattle.rules.specs.Placing.{placing}
@@ -22,7 +22,7 @@ use Rattle.rules.specs.Calls.{Answer, refused, answered}
 use Rattle.rules.specs.Walking.{place_of, Walked, walked, is_fork, forks, walk_on, is_faulty, walk_call, fork_choices, Faultless}
 use Rattle.rules.proofs.Test.{case-of, clash}
 use Rattle.rules.proofs.Every.{every, is_one}
-use Rattle.rules.proofs.ClassRules.{by_one, class-rule}
+use Rattle.rules.proofs.ClassRules.{is_clause_block, by_one, class-rule}
 use Rattle.rules.proofs.Inside.{some-open}
 
 -- ---- the place of a row is 2 + its number

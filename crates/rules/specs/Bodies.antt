@@ -1,5 +1,5 @@
 -- Document 01, "Bodies to try": the bodies 1 to 12 as rows, with the names L, M and `_`, each row at the position of its number plus 1; then bodies
--- for the runner, the walk and the unreachable rows.
+-- for the runner.
 -- Assumes nothing.
 use Rattle.std.specs.Prelude.{List, [], ◌∷◌, ℕ, suc}
 
@@ -234,53 +234,3 @@ empty_for = row_words_of (Block 3 ∷ For 2 ∷ Block 1 ∷ [])
 -- goto L in a Block that ends before it, which is refused
 abbrev pub goto_past_end : List ℕ
 goto_past_end = row_words_of (Block 1 ∷ Goto L ∷ [])
-
--- ---- bodies with rows that no route has
-
--- return; x()
-abbrev pub after_return : List ℕ
-after_return = row_words_of (Block 3 ∷ Return ∷ Expr ∷ [])
-
--- goto L; x(); L: return
-abbrev pub after_goto : List ℕ
-after_goto = row_words_of (Block 5 ∷ Goto L ∷ Expr ∷ Labeled L 2 ∷ Return ∷ [])
-
--- for {}; x()
-abbrev pub after_for : List ℕ
-after_for = row_words_of (Block 4 ∷ For 2 ∷ Block 1 ∷ Expr ∷ [])
-
--- for { break; x() }; return
-abbrev pub after_break : List ℕ
-after_break = row_words_of (Block 6 ∷ For 4 ∷ Block 3 ∷ Break 0 ∷ Expr ∷ Return ∷ [])
-
--- switch { default: return }; x()
-abbrev pub after_switch : List ℕ
-after_switch = row_words_of (Block 6 ∷ Switch 4 ∷ Block 3 ∷ Default 2 ∷ Return ∷ Expr ∷ [])
-
--- if c { return } else { return }; x()
-abbrev pub after_if : List ℕ
-after_if = row_words_of (Block 7 ∷ IfElse 5 ∷ Block 2 ∷ Return ∷ Block 2 ∷ Return ∷ Expr ∷ [])
-
--- select {}; x()
-abbrev pub after_select : List ℕ
-after_select = row_words_of (Block 4 ∷ Select 2 ∷ Block 1 ∷ Expr ∷ [])
-
--- return; goto L; L: x()
-abbrev pub dead_label : List ℕ
-dead_label = row_words_of (Block 5 ∷ Return ∷ Goto L ∷ Labeled L 2 ∷ Expr ∷ [])
-
--- return; L: x(); goto L
-abbrev pub dead_loop : List ℕ
-dead_loop = row_words_of (Block 5 ∷ Return ∷ Labeled L 2 ∷ Expr ∷ Goto L ∷ [])
-
--- return; switch { case: x() }
-abbrev pub dead_switch : List ℕ
-dead_switch = row_words_of (Block 6 ∷ Return ∷ Switch 4 ∷ Block 3 ∷ Case 2 ∷ Expr ∷ [])
-
--- return; ;
-abbrev pub dead_empties : List ℕ
-dead_empties = row_words_of (Block 4 ∷ Return ∷ Empty ∷ Empty ∷ [])
-
--- for { return; break }
-abbrev pub dead_break : List ℕ
-dead_break = row_words_of (Block 5 ∷ For 4 ∷ Block 3 ∷ Return ∷ Break 0 ∷ [])

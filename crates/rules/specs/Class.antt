@@ -106,13 +106,9 @@ is_comm = one_of (comm ∷ default_comm ∷ [])
 abbrev pub is_default : Class → Bool
 is_default = one_of (default_case ∷ default_comm ∷ [])
 
--- the Block of a switch or Select
-abbrev pub is_clause_block : Class → Bool
-is_clause_block = one_of (case_block ∷ comm_block ∷ [])
-
 -- what may be an item of a list
 abbrev pub is_statement : Class → Bool
-is_statement c = not ((is_case c || is_comm c) || is_clause_block c)
+is_statement c = not ((is_case c || is_comm c) || one_of (case_block ∷ comm_block ∷ []) c)
 
 -- ---- the class of a row
 

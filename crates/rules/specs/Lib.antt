@@ -13,6 +13,4 @@ pub mod Calls
 pub mod Law
 pub mod Tally
 pub mod Walking
-pub mod Rounds
-pub mod Unreachable
 pub mod Bodies

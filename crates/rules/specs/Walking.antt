@@ -3,7 +3,7 @@
 use Rattle.std.specs.Prelude.{◌≡◌, Bool, true, false, ◌&&◌, ◌||◌, ◌≢◌, List, [], ◌∷◌, ◌++◌, ℕ, zero, suc, ◌≤◌, ◌<◌, ltb, length, get_or, take}
 use Rattle.std.proofs.Math.Option.{none, some}
 use Rattle.rules.specs.Rows.{row_count}
-use Rattle.rules.specs.Class.{if, if_else, switch, type_switch, select, for_cond, one_of, is_clause_block, class}
+use Rattle.rules.specs.Class.{case_block, comm_block, if, if_else, switch, type_switch, select, for_cond, one_of, class}
 use Rattle.rules.specs.Refusals.{WellFormed, refusal}
 use Rattle.rules.specs.Labels.{is_some, sheet}
 use Rattle.rules.specs.Placing.{placing}
@@ -74,7 +74,7 @@ module _ (w p b : List ℕ) where
 -- where the runner keeps: a row of the body but no Block of a switch or Select, a stop, the closing brace
 abbrev pub Inside : List ℕ → State → Type 0
 Inside w s = elim s [
-  | at r ↦ (r < row_count w) × (is_clause_block (class w r) ≡ false)
+  | at r ↦ (r < row_count w) × (one_of (case_block ∷ comm_block ∷ []) (class w r) ≡ false)
   | stopped ↦ Unit {0}
   | brace ↦ Unit {0}
 ]

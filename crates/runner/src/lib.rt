@@ -195,7 +195,7 @@ fn walk_of(rows: &[u32], pairs: &[u32], bytes: &[u8], choices: &[u32], limit: us
         return WalkAnswer::Refused(Refusal::Faulty);
     }
     let mut firsts = [0u16; 2001];
-    let mut steps = [0u16; 6001];
+    let mut steps = [0u16; 6000];
     steps::steps_of(rows, pairs, bytes, &bindings, &mut firsts, &mut steps);
     walk_on(rows, pairs, bytes, &firsts, &steps, choices, limit)
 }

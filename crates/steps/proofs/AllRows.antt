@@ -32,7 +32,7 @@ steps-start w p b firsts steps l = record {
 
 module _ {w p b firsts steps : List ℕ} {r first : ℕ} (body : Body w p b) (l : r < row_count w) (x : StepsTo w p b firsts steps r first) where
   -- there is room for the steps of row r
-  pub row_room : (n : ℕ) → row_count w * 3 < n → first + choices w p b (at r) < n
+  pub row_room : (n : ℕ) → row_count w * 3 ≤ n → first + choices w p b (at r) ≤ n
   row_room n h = omega (arith, x.at_row, before_more w p b r, before-rises w p b (suc r) (row_count w) l, steps-most body)
 
   module _ {new : List ℕ} {end' : ℕ} (y : RowWritten w p b steps new r first end') where

@@ -1,100 +1,68 @@
--- The arms of the match on the number of a row's class, and the simple rows before it: each is the law of that class.
+-- The arms of the two matches on the number of a row's class: each is the law of that class, with the places that the tables have.
 -- Assumes nothing.
 use mathlib.Core.Path.{◌≡◌, refl, sym, ◌∙◌, ap}
-use mathlib.Core.Bool.{true, false, not}
-use mathlib.Core.Logic.{⊎_elim}
-use mathlib.Core.List.{List, [], ◌∷◌}
-use mathlib.Core.Option.{some}
+use mathlib.Core.Bool.{true}
+use mathlib.Core.List.{List}
 use Prim.Native.Nat.{ℕ, suc, ◌+◌, ◌≤◌, ◌<◌}
 use native.Mathlib.Omega.{arith}
-use lib.ListN.{length, get_or, set}
-use borrow.Author.Tests.{eqb-true}
-use Rattle.rules.specs.Scan.{lowest}
-use Rattle.rules.specs.Rows.{row_count, kind, end}
-use Rattle.rules.specs.Class.{Class, if, if_else, select, for_cond, code, is_branch, is_switch, is_clause_block, class}
-use Rattle.rules.specs.Body.{Body}
-use Rattle.rules.specs.Runner.{at, choices, step}
-use Rattle.rules.specs.Walking.{place_of}
-use Rattle.rules.proofs.Every.{every, implies, implied, class_at, of-class}
-use Rattle.rules.proofs.ByKind.{among, NoneOf, none-among}
-use Rattle.rules.proofs.ClassRules.{by_one}
-use Rattle.rules.proofs.Lists.{branch-kind}
-use Rattle.rules.proofs.Steps.{TwoWays, if-ways, if-else-ways, for-condition-ways}
+use lib.ListN.{get_or}
+use Rattle.rules.specs.Rows.{row_count, size, end}
+use Rattle.rules.specs.Class.{select, if_else, code, is_branch, is_switch, class}
+use Rattle.rules.specs.Runner.{State, at, after, choices}
+use Rattle.rules.proofs.Every.{class_at}
+use Rattle.rules.proofs.ByKind.{NoneOf}
+use Rattle.rules.proofs.ClassRules.{is_clause_block}
+use Rattle.rules.proofs.Steps.{TwoWays, is_plain, plain-goes-on, stop-stops, labeled-enters, list-first-item, list-without-items, if-ways, if-else-ways}
+use Rattle.rules.proofs.Steps.{for-condition-ways, for-enters}
 use Rattle.classes.proofs.Codes.{code_is}
-use Rattle.steps.specs.Written.{TwoWritten, RowWritten, is_simple}
+use Rattle.steps.specs.Written.{Tables, has_one_way, OnlyStep}
 use Rattle.steps.proofs.Choices.{branch-choices, no-choices}
-use Rattle.steps.proofs.Leads.{two-written, row_words}
-use Rattle.steps.proofs.Ways.{ways, some-ways, no-ways}
+use Rattle.steps.proofs.Leads.{forks, other-one-way, singles, other-list, place-below, only-way}
 
--- ---- what the last arm takes
-abbrev others : List ℕ
-others = 11 ∷ 10 ∷ 20 ∷ 19 ∷ 18 ∷ 13 ∷ []
+module _ {w p b afters destinations : List ℕ} (t : Tables w p b afters destinations) {r n : ℕ} (l : r < row_count w) (e : n ≡ code (class w r)) where
+  -- ---- one way
+  pub labeled-below : n ≡ 3 → OnlyStep w p b r (r + 3)
+  labeled-below k = only-way w p b r (r + 3) (labeled-enters w p b r (code_is (class w r) 3 (sym e ∙ k))) (place-below r (r + 3) refl)
 
-other-branch : (c : Class) {n : ℕ} → n ≡ code c → NoneOf others n → is_simple c ≡ false → is_branch c ≡ true
-unfolding every lowest
-other-branch c e u s =
-    implied (not (is_simple c)) (is_branch c)
-    (implied (not (among others (code c))) (implies (not (is_simple c)) (is_branch c))
-    (of-class (λ c. implies (not (among others (code c))) (implies (not (is_simple c)) (is_branch c))) refl c)
-    (ap not (rw e at (none-among others _ u)))) (ap not s)
+  pub for-below : n ≡ 21 → OnlyStep w p b r (r + 3)
+  for-below k = only-way w p b r (r + 3) (for-enters w p b r (code_is (class w r) 21 (sym e ∙ k))) (place-below r (r + 3) refl)
 
-module _ {w p b : List ℕ} (body : Body w p b) {r n : ℕ} (l : r < row_count w) (e : n ≡ code (class w r)) where
-  -- ---- the simple rows
-  module _ (some-way : get_or ways n 0 ≡ 0 → ⊥) where
-    pub is-simple : is_simple (class w r) ≡ true
-    is-simple = (some-ways w p b r (class w r) e some-way).0
+  pub stop-here : n ≡ 4 → OnlyStep w p b r 0
+  stop-here k = only-way w p b r 0 (stop-stops w p b r (code_is (class w r) 4 (sym e ∙ k))) refl
 
-    ways-choices : choices w p b (at r) ≡ get_or ways n 0
-    unfolding choices
-    ways-choices = (some-ways w p b r (class w r) e some-way).1
+  pub branch-there : (m : ℕ) → is_branch (class_at m) ≡ true → n ≡ m → OnlyStep w p b r (get_or destinations r 0)
+  branch-there m u k =
+      let v : is_branch (class w r) ≡ true = ap is_branch (code_is (class w r) m (sym e ∙ k)) ∙ u in
+      (branch-choices w p b r v, t.branch_rows r l v)
 
-    -- one or two, and the second goes to the row below
-    second_way : (get_or ways n 0 ≤ 2) × (get_or ways n 0 ≡ 2 → step w p b (at r) 1 ≡ some (at (suc r)))
-    second_way = ⊎_elim
-        (λ a. (omega arith, λ z. absurd (omega arith)))
-        (λ a. by_one _ (if ∷ for_cond ∷ []) (class w r) a
-        (λ i. let x = if-ways w p b r i in (omega (arith, ways-choices, x.0), λ z. x.1))
-        (λ i. let x = for-condition-ways w p b r i in (omega (arith, ways-choices, x.0), λ z. x.1)))
-        (some-ways w p b r (class w r) e some-way).2
+  pub plain-on : (m : ℕ) → is_plain (class_at m) ≡ true → n ≡ m → OnlyStep w p b r (get_or afters r 0)
+  plain-on m u k =
+      only-way w p b r (get_or afters r 0) (plain-goes-on w p b r (ap is_plain (code_is (class w r) m (sym e ∙ k)) ∙ u)) (t.after_rows r l)
 
-    pub simple-room : (first : ℕ) {m : ℕ} → first + choices w p b (at r) < m → first + 2 ≤ m
-    simple-room first h = omega (arith, ways-choices)
+  pub list-below : NoneOf singles n → has_one_way (class w r) ≡ true → 1 < size w r → OnlyStep w p b r (r + 3)
+  list-below u v h = only-way w p b r (r + 3) (list-first-item w p b r (other-list (class w r) e u v) h) (place-below r (r + 3) refl)
 
-    pub ways-room : (first : ℕ) {m : ℕ} → first + choices w p b (at r) < m → first + get_or ways n 0 < m
-    ways-room first h = omega (arith, ways-choices)
+  pub list_on : NoneOf singles n → has_one_way (class w r) ≡ true → size w r ≤ 1 → OnlyStep w p b r (get_or afters r 0)
+  list_on u v h = only-way w p b r (get_or afters r 0) (list-without-items w p b r (other-list (class w r) e u v) h) (t.after_rows r l)
 
-    pub row-simple : (old : List ℕ) (first x : ℕ) → first + choices w p b (at r) < length old → step w p b (at r) 0 ≡ some (place_of x)
-        → RowWritten w p b old (set (set old first x) (first + 1) (r + 3)) r first (first + get_or ways n 0)
-    row-simple old first x h goes =
-        let s = second_way in
-        row_words w p b r (get_or ways n 0) ways-choices s.0 goes s.1 (two-written old r x first (simple-room first h)) refl
+  pub is-one-way : NoneOf forks n → has_one_way (class w r) ≡ true
+  is-one-way u = other-one-way (class w r) e u
 
-  -- ---- a Branch but a goto
-  module _ (none : get_or ways n 0 ≡ 0) (u : NoneOf others n) where
-    is-branch : is_branch (class w r) ≡ true
-    is-branch = other-branch (class w r) e u (no-ways w p b r (class w r) e none)
+  -- ---- two ways
+  pub two-room : (first : ℕ) {m : ℕ} {s u : State} → TwoWays w p b r s u → first + choices w p b (at r) ≤ m → (r < 2000) × (first + 2 ≤ m)
+  two-room first x h = (omega (arith, t.body.most_rows), omega (arith, x.0))
 
-    pub is-11 : kind w r ≡ 11
-    is-11 = eqb-true (kind w r) 11 (branch-kind w r (body.details r l) ∙ is-branch)
+  pub if-two : n ≡ 12 → TwoWays w p b r (at (suc r)) (after w r)
+  if-two k = if-ways w p b r (code_is (class w r) 12 (sym e ∙ k))
 
-    pub one_choice : choices w p b (at r) ≡ 1
-    one_choice = branch-choices w p b r is-branch
+  pub else-two : n ≡ 13 → TwoWays w p b r (at (suc r)) (at (end w (suc r)))
+  else-two k = if-else-ways w p b r (code_is (class w r) 13 (sym e ∙ k))
 
-  -- ---- an If with an else
+  pub cond-two : n ≡ 22 → TwoWays w p b r (at (suc r)) (after w r)
+  cond-two k = for-condition-ways w p b r (code_is (class w r) 22 (sym e ∙ k))
+
   pub is-if-else : n ≡ 13 → class w r ≡ if_else
   is-if-else k = code_is (class w r) 13 (sym e ∙ k)
-
-  else-two : n ≡ 13 → TwoWays w p b r (at (suc r)) (at (end w (suc r)))
-  else-two k = if-else-ways w p b r (is-if-else k)
-
-  pub else-room : n ≡ 13 → (first : ℕ) {m : ℕ} → first + choices w p b (at r) < m → first + 2 ≤ m
-  else-room k first h = omega (arith, (else-two k).0)
-
-  pub row-else : n ≡ 13 → {old new : List ℕ} {x first end' : ℕ} → place_of x ≡ at (end w (suc r)) → TwoWritten old new r x first end'
-      → RowWritten w p b old new r first end'
-  row-else k i y =
-      let t = else-two k in
-      row_words w p b r 2 t.0 (omega arith) (t.2 ∙ ap some (sym i)) (λ z. t.1) y y.ends
 
   -- ---- forks with clauses, and their Blocks
   pub is-switch : (m : ℕ) → is_switch (class_at m) ≡ true → n ≡ m → is_switch (class w r) ≡ true

@@ -13,7 +13,7 @@ use lib.Dec.{ltb, leb, eqb}
 use borrow.Author.Tests.{ltb-true, lt-ltb, leb-true, eqb-true, eq-eqb}
 use Rattle.rules.specs.Scan.{lowest, how_many}
 use Rattle.rules.specs.Rows.{row_count, size, end, parent, Item, here, later, Child}
-use Rattle.rules.specs.Class.{break, continue, goto, fallthrough, case_block, comm_block, select, one_of, is_branch, is_switch, is_clause_block, class}
+use Rattle.rules.specs.Class.{break, continue, goto, fallthrough, case_block, comm_block, select, one_of, is_branch, is_switch, class}
 use Rattle.rules.specs.Refusals.{holding, body as one}
 use Rattle.rules.specs.Body.{Body}
 use Rattle.rules.specs.Verdict.{has_default}
@@ -22,7 +22,7 @@ use Rattle.rules.proofs.Test.{case-of, case-found, clash, or-true}
 use Rattle.rules.proofs.Scan.{how_many-most, how_many-yes, how_many-no}
 use Rattle.rules.proofs.Every.{every, implies, implied, of-class, is_one}
 use Rattle.rules.proofs.Shape.{opens}
-use Rattle.rules.proofs.ClassRules.{by_one, opens-holds}
+use Rattle.rules.proofs.ClassRules.{is_clause_block, by_one, opens-holds}
 use Rattle.rules.proofs.Nesting.{item-before}
 use Rattle.rules.proofs.Going.{item-at-first, item-at-later, item-count-more, item-count-none, item-count-zero, clause-count}
 use Rattle.rules.proofs.Steps.{switch-with-default, switch-without-default, select-choices, select-without-clauses}

@@ -1,8 +1,8 @@
 -- What is written for a row leads where its choices do: for each way in which rows go, the words written are the places of its steps.
 -- Assumes nothing.
 use mathlib.Core.Path.{◌≡◌, refl, sym, ◌∙◌, ap}
-use mathlib.Core.Bool.{Bool, true, false}
-use mathlib.Core.List.{List}
+use mathlib.Core.Bool.{Bool, true, false, not}
+use mathlib.Core.List.{List, [], ◌∷◌}
 use mathlib.Core.Option.{some}
 use Prim.Native.Nat.{ℕ, suc, ◌+◌, ◌≤◌, ◌<◌}
 use native.Mathlib.Omega.{arith}
@@ -10,13 +10,38 @@ use native.Mathlib.Numerals.{add-one}
 use native.Mathlib.Decide.{ℕ_discrete}
 use lib.ListN.{length, get_or, set, length-set}
 use lib.Seq.{get_or-set_same, get_or-set_other}
-use Rattle.rules.specs.Class.{select, is_switch, class}
+use Rattle.rules.specs.Scan.{lowest}
+use Rattle.rules.specs.Class.{Class, select, code, is_switch, class}
+use Rattle.rules.specs.Scope.{is_list}
 use Rattle.rules.specs.Runner.{State, at, after, item_at, clause_count, choices, step}
 use Rattle.rules.specs.Walking.{place_of}
+use Rattle.rules.proofs.Every.{every, implies, implied, of-class}
+use Rattle.rules.proofs.ByKind.{among, NoneOf, none-among}
 use Rattle.rules.proofs.WalkSteps.{place-row}
-use Rattle.rules.proofs.Steps.{switch-takes, switch-with-default, switch-without-default, select-takes, select-choices}
+use Rattle.rules.proofs.Steps.{OneWay, TwoWays, switch-takes, switch-with-default, switch-without-default, select-takes, select-choices}
 use Rattle.rules.proofs.Steps.{select-without-clauses}
-use Rattle.steps.specs.Written.{ClausesWritten, TwoWritten, RowWritten}
+use Rattle.steps.specs.Written.{ClausesWritten, TwoWritten, RowWritten, has_one_way, OnlyStep}
+
+-- ---- what the last arms of the matches take
+abbrev pub forks : List ℕ
+forks = 11 ∷ 10 ∷ 20 ∷ 19 ∷ 18 ∷ 22 ∷ 13 ∷ 12 ∷ []
+
+pub other-one-way : (c : Class) {n : ℕ} → n ≡ code c → NoneOf forks n → has_one_way c ≡ true
+unfolding every lowest
+other-one-way c e u =
+    implied (not (among forks (code c))) (has_one_way c) (of-class (λ c. implies (not (among forks (code c))) (has_one_way c)) refl c)
+    (ap not (rw e at (none-among forks _ u)))
+
+abbrev pub singles : List ℕ
+singles = 2 ∷ 1 ∷ 0 ∷ 8 ∷ 7 ∷ 6 ∷ 5 ∷ 4 ∷ 21 ∷ 3 ∷ []
+
+pub other-list : (c : Class) {n : ℕ} → n ≡ code c → NoneOf singles n → has_one_way c ≡ true → is_list c ≡ true
+unfolding every lowest
+other-list c e u t =
+    implied (has_one_way c) (is_list c)
+    (implied (not (among singles (code c))) (implies (has_one_way c) (is_list c))
+    (of-class (λ c. implies (not (among singles (code c))) (implies (has_one_way c) (is_list c))) refl c)
+    (ap not (rw e at (none-among singles _ u)))) t
 
 -- ---- places
 pub place-below : (r x : ℕ) → x ≡ r + 3 → place_of x ≡ at (suc r)
@@ -35,16 +60,18 @@ two-written old r other first l = rw (add-one first) (record {
 })
 
 module _ (w p b : List ℕ) (r : ℕ) where
+  pub only-way : {s : State} (x : ℕ) → OneWay w p b r (some s) → place_of x ≡ s → OnlyStep w p b r x
+  only-way x o e = (o.0, o.1 0 ∙ ap some (sym e))
+
   -- ---- one step, two, and none
   module _ (old : List ℕ) (first : ℕ) where
-    pub row_one : (x : ℕ) → choices w p b (at r) ≡ 1 → step w p b (at r) 0 ≡ some (place_of x) → first < length old
-        → RowWritten w p b old (set old first x) r first (first + 1)
-    row_one x n o l = record {
-      ends = omega arith;
+    pub row_one : (x : ℕ) → OnlyStep w p b r x → first < length old → RowWritten w p b old (set old first x) r first (first + 1)
+    row_one x o l = record {
+      ends = omega (arith, o.0);
       steps = λ c h.
-          let z : c ≡ 0 = omega arith in
+          let z : c ≡ 0 = omega (arith, o.0) in
           let k : first + 0 ≡ first = omega arith in
-          rw (z, k) (o ∙ ap (λ (y : ℕ). some (place_of y)) (sym (get_or-set_same old first x 0 l)));
+          rw (z, k) (o.1 ∙ ap (λ (y : ℕ). some (place_of y)) (sym (get_or-set_same old first x 0 l)));
       kept = λ j h. get_or-set_other old first j x 0 (λ k. omega arith);
     }
 
@@ -52,18 +79,17 @@ module _ (w p b : List ℕ) (r : ℕ) where
     row-none z = record { ends = omega arith; steps = λ c h. absurd (omega arith); kept = λ j h. refl }
 
   module _ {old new : List ℕ} {first end' : ℕ} where
-    -- one or two, of which the second may be written though there is one
-    pub row_words : (n : ℕ) {other end'' : ℕ} → choices w p b (at r) ≡ n → n ≤ 2 → step w p b (at r) 0 ≡ some (place_of other)
-        → (n ≡ 2 → step w p b (at r) 1 ≡ some (at (suc r))) → TwoWritten old new r other first end'' → end' ≡ first + n → RowWritten w p b old new r first end'
-    row_words n {other} e m goes below y i = record {
-      ends = omega arith;
+    pub row-two : {s : State} {other : ℕ} → TwoWays w p b r (at (suc r)) s → place_of other ≡ s → TwoWritten old new r other first end'
+        → RowWritten w p b old new r first end'
+    row-two {s} {other} t e y = record {
+      ends = omega (arith, t.0, y.ends);
       steps = λ c h. elim (ℕ_discrete c 0) [
         | yes z ↦
             let k : first + 0 ≡ first = omega arith in
-            rw (z, k) (goes ∙ ap (λ (x : ℕ). some (place_of x)) (sym y.without_body))
+            rw (z, k) (t.2 ∙ ap some (sym e) ∙ ap (λ (x : ℕ). some (place_of x)) (sym y.without_body))
         | no z ↦
-            let u : c ≡ 1 = omega arith in
-            rw (u, add-one first) (below (omega arith) ∙ ap (λ (x : ℕ). some (place_of x)) (sym y.with_body))
+            let u : c ≡ 1 = omega (arith, t.0) in
+            rw (u, add-one first) (t.1 ∙ ap (λ (x : ℕ). some (place_of x)) (sym y.with_body))
       ];
       kept = y.kept;
     }

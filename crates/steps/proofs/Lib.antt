@@ -2,8 +2,6 @@ pub mod Choices
 pub mod Total
 pub mod Turns
 pub mod Leads
-pub mod Ways
-pub mod Simple
 pub mod Arms
 pub mod AllRows
 pub mod Reading

@@ -1,21 +1,24 @@
 -- What the passes that write the steps are lent and leave.
 -- Assumes nothing.
 use Rattle.std.specs.Prelude.{◌≡◌, Bool, not, List, [], ◌∷◌, ℕ, suc, ◌+◌, ◌≤◌, ◌<◌, length, get_or}
+use Rattle.std.proofs.Math.Option.{some}
 use Rattle.rules.specs.Rows.{row_count}
-use Rattle.rules.specs.Class.{Class, break, continue, fallthrough, case_block, comm_block, if_else, switch, type_switch, select, one_of}
+use Rattle.rules.specs.Class.{Class, case_block, comm_block, if, if_else, switch, type_switch, select, for_cond, one_of}
+use Rattle.rules.specs.Body.{Body}
 use Rattle.rules.specs.Verdict.{has_default}
-use Rattle.rules.specs.Runner.{at, item_at, clause_count, choices}
-use Rattle.rules.specs.Walking.{Faultless}
-use Rattle.around.specs.Around.{Afters}
-use Rattle.destinations.specs.Destinations.{Bound}
+use Rattle.rules.specs.Runner.{at, item_at, clause_count, choices, step}
+use Rattle.rules.specs.Walking.{place_of}
+use Rattle.afters.specs.Afters.{Afters}
+use Rattle.destinations.specs.Destinations.{Destinations}
 use Rattle.steps.specs.StepTable.{StepsOf}
 
--- a body without a fault, its bindings and the places after its rows
-pub record Known (w p b bindings afters : List ℕ) : Type 0 where
-  pub faultless : Faultless w p b
-  pub bound : Bound w p b bindings
+-- a body, the places after its rows and those that its branches go to
+pub record Tables (w p b afters destinations : List ℕ) : Type 0 where
+  pub body : Body w p b
   pub afters_room : row_count w ≤ length afters
   pub after_rows : Afters w afters
+  pub destinations_room : row_count w ≤ length destinations
+  pub branch_rows : Destinations w p b destinations
 
 -- the clauses of r in order, from `first` up to `end`, each as 2 + its row, and whether one is a default; what stands before them stays
 pub record ClausesWritten (w old new : List ℕ) (r first end : ℕ) (default : Bool) : Type 0 where
@@ -41,6 +44,10 @@ pub record RowWritten (w p b old new : List ℕ) (r first end : ℕ) : Type 0 wh
 abbrev pub Room : List ℕ → ℕ → ℕ → ℕ → Type 0
 Room w r first n = (p : List ℕ) × (b : List ℕ) × (first + choices w p b (at r) ≤ n)
 
--- neither an If with an else, nor a fork with clauses or the Block of one, nor a Branch but a goto
-abbrev pub is_simple : Class → Bool
-is_simple c = not (one_of (break ∷ continue ∷ fallthrough ∷ if_else ∷ switch ∷ type_switch ∷ select ∷ case_block ∷ comm_block ∷ []) c)
+-- neither a fork nor the Block of one
+abbrev pub has_one_way : Class → Bool
+has_one_way c = not (one_of (if ∷ if_else ∷ for_cond ∷ switch ∷ type_switch ∷ select ∷ case_block ∷ comm_block ∷ []) c)
+
+-- row r has one step, which leads to the place x
+abbrev pub OnlyStep : List ℕ → List ℕ → List ℕ → ℕ → ℕ → Type 0
+OnlyStep w p b r x = (choices w p b (at r) ≡ 1) × (step w p b (at r) 0 ≡ some (place_of x))

@@ -18,7 +18,7 @@ func TestExamples(t *testing.T) {
 	if err != nil || len(scripts) == 0 {
 		t.Fatal("no examples:", err)
 	}
-	codes := map[string]int{"clean": clean, "paper": faulty, "broken": unread, "dead": clean}
+	codes := map[string]int{"clean": clean, "paper": faulty, "broken": unread}
 	for _, name := range scripts {
 		example := strings.TrimSuffix(filepath.Base(name), ".go")
 		expected, err := os.ReadFile("examples/" + example + ".txt")

@@ -1,5 +1,4 @@
 // Command zesthull marks the function bodies of Go files: label faults, misplaced branches, missing returns, multiple defaults.
-// It walks through them, too, and lists their unreachable statements.
 package main
 
 import (
@@ -39,15 +38,10 @@ multiple defaults.
                  body, 0 the else or to go on after it; at a switch or select it is the clause, from
                  0 on, and after the last clause of a switch without default to go on after it
       -limit N   the most steps, 1000 if not given and 10000 at most
-  zesthull unreachable [-all] FILE|DIR|-...
-      lists the statements of every function and function literal that no walk comes to, whatever its
-      choices, but for those inside another. A function with label faults, misplaced branches or
-      multiple defaults isn't looked at, and these are told instead
-      -all       those inside another, too, and with each what it is
   zesthull -version
 
-Exit code: 0 clean, 1 faults (or, of walk, a choice out of range; of unreachable, a statement to
-list), 2 something could not be read or is over a limit.
+Exit code: 0 clean, 1 faults (or, of walk, a choice out of range), 2 something could not be read or
+is over a limit.
 `
 
 func main() {
@@ -66,8 +60,6 @@ func run(args []string, in io.Reader, out, err io.Writer) int {
 		return rowsCommand(args[1:], in, out, err)
 	case "walk":
 		return walkCommand(args[1:], in, out, err)
-	case "unreachable":
-		return unreachableCommand(args[1:], in, out, err)
 	case "-version", "--version", "version":
 		fmt.Fprintln(out, "zesthull", calls.Version())
 		return clean

@@ -23,8 +23,7 @@ func TestUsage(t *testing.T) {
 // The usage has every command and every flag.
 func TestUsageIsWhole(t *testing.T) {
 	out := with("", "-help").out
-	for _, word := range []string{"mark", "rows", "walk", "unreachable [", "-version", "-v ", "-json", "-log FILE", "-list", "-by CHOICES", "-limit N", "-func NAME", "-e TEXT",
-		"-all", "FILE|DIR|-"} {
+	for _, word := range []string{"mark", "rows", "walk", "-version", "-v ", "-json", "-log FILE", "-list", "-by CHOICES", "-limit N", "-func NAME", "-e TEXT", "FILE|DIR|-"} {
 		if !strings.Contains(out, word) {
 			t.Errorf("the usage doesn't name %s", word)
 		}
@@ -51,7 +50,6 @@ func TestWrongFlags(t *testing.T) {
 		{"mark"}, {"mark", "-v"}, {"mark", "-x", "-"}, {"mark", "-log"}, {"mark", "-v=maybe", "-"},
 		{"rows"}, {"rows", "-list"}, {"rows", "-x", "-"}, {"rows", "-func"}, {"rows", "-", "-"}, {"rows", "-e", "return", "-"}, {"rows", "-e"},
 		{"walk"}, {"walk", "-by", "1"}, {"walk", "-x", "-"}, {"walk", "-func"}, {"walk", "-", "-"}, {"walk", "-e", "return", "-"}, {"walk", "-e"},
-		{"unreachable"}, {"unreachable", "-all"}, {"unreachable", "-v", "-"}, {"unreachable", "-all=maybe", "-"},
 	} {
 		if r := with("", args...); r.code != 2 || r.out != "" || r.err == "" {
 			t.Errorf("%q: %+v", args, r)

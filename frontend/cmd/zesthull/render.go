@@ -10,8 +10,8 @@ import (
 )
 
 // render is what is printed for a script.
-func (o options) render(r *mark.Result) []byte {
-	if o.verbose {
+func (c *marking) render(r *mark.Result) []byte {
+	if c.verbose {
 		return lines(r, withVerdicts(r))
 	}
 	return lines(r, r.Findings)

@@ -2,6 +2,7 @@ package main
 
 import (
 	"bytes"
+	"errors"
 	"flag"
 	"fmt"
 	"io"
@@ -69,11 +70,17 @@ func parseChoices(text string) (choices []uint32, err error) {
 // noWalk is the exit code and what is told of a body that can't be walked.
 func noWalk(r *mark.Result, b *mark.Body, err error) (code int, message string) {
 	place := fmt.Sprintf("%s: %s: no walk", placeOf(r, r.Position(b.Function.At)), b.Title())
-	if !calls.IsFaulty(err) {
+	if !isFaulty(err) {
 		return unread, fmt.Sprintf("%s: %v", place, err)
 	}
 	faults := strings.TrimSuffix(string(lines(r, r.Faults(b))), "\n")
 	return faulty, place + ", since it has faults:\n" + faults
+}
+
+// isFaulty tells whether it is for faults of the body that the walk is refused.
+func isFaulty(err error) bool {
+	var refusal *calls.Refusal
+	return errors.As(err, &refusal) && (refusal.Number == calls.Faulty || refusal.Number == calls.MultipleDefaults)
 }
 
 // walkText prints a walk of a script's body.

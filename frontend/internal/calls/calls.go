@@ -1,5 +1,5 @@
 // Package calls makes the proved calls of the archive libexports.a safe to name: a body's marks, the
-// first branch badly placed, a walk by given choices, the rows that no walk comes to, and the version.
+// first branch badly placed, a walk by given choices, and the version.
 package calls
 
 /*
@@ -10,7 +10,6 @@ package calls
 import "C"
 
 import (
-	"errors"
 	"fmt"
 	"unsafe"
 )
@@ -100,19 +99,13 @@ type Walked struct {
 	Steps, Used int
 }
 
-// The refusals of the walk call, the first of the unreachable call too.
+// The refusals of the walk call alone.
 const (
 	// Faulty: the body has label faults or a branch badly placed.
 	Faulty = 8
 	// OutOfRange: the choice of that index isn't open where it is met.
 	OutOfRange = 9
 )
-
-// IsFaulty tells whether it is for faults of the body that a walk or a list is refused: those of Faulty, or multiple defaults.
-func IsFaulty(err error) bool {
-	var refusal *Refusal
-	return errors.As(err, &refusal) && (refusal.Number == Faulty || refusal.Number == MultipleDefaults)
-}
 
 // Walk is the walk call: from row 0 on by the choices, up to limit steps.
 func Walk(b Body, choices []uint32, limit uint) (Walked, error) {
@@ -124,26 +117,6 @@ func Walk(b Body, choices []uint32, limit uint) (Walked, error) {
 		return Walked{}, &Refusal{uint32(number), int(value)}
 	}
 	return Walked{Place(value), int(steps), int(used)}, nil
-}
-
-// Unreachable is the unreachable call: the rows that no choices bring a walk to, ascending. The list lent has room for all
-// rows, so that it is never too short.
-func Unreachable(b Body) ([]int, error) {
-	list := make([]uint32, b.RowCount())
-	var value C.size_t
-	number := C.zesthull_unreachable(words(b.Rows), C.size_t(len(b.Rows)), words(b.Pairs), C.size_t(len(b.Pairs)),
-		bytes(b.Bytes), C.size_t(len(b.Bytes)), words(list), C.size_t(len(list)), &value)
-	if number != 0 {
-		return nil, &Refusal{uint32(number), int(value)}
-	}
-	return ints(list[:value]), nil
-}
-
-func ints(words []uint32) (list []int) {
-	for _, w := range words {
-		list = append(list, int(w))
-	}
-	return list
 }
 
 // Version is the archive's version, as in 0.8.0.

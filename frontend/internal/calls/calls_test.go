@@ -78,9 +78,6 @@ func TestWordsStay(t *testing.T) {
 	if _, err := Walk(b, nil, 9); err == nil {
 		t.Error("a walk of a body with faults")
 	}
-	if _, err := Unreachable(b); err == nil {
-		t.Error("a list of a body with faults")
-	}
 	if !reflect.DeepEqual(b, document) {
 		t.Errorf("%v after the calls, %v before", b, document)
 	}

@@ -154,8 +154,6 @@ func TestRefusals(t *testing.T) {
 		check(t, c.name+": FirstMisplaced", err, c.number, c.index)
 		_, err = Walk(c.body, nil, 0)
 		check(t, c.name+": Walk", err, c.number, c.index)
-		_, err = Unreachable(c.body)
-		check(t, c.name+": Unreachable", err, c.number, c.index)
 	}
 }
 
@@ -172,18 +170,6 @@ func check(t *testing.T, name string, err error, number uint32, index int) {
 		t.Errorf("%s: %v and no refusal %d", name, err, number)
 	} else if *refusal != (Refusal{number, index}) {
 		t.Errorf("%s: %v, not %d %d", name, err, number, index)
-	}
-}
-
-// A walk and a list are refused for faults with 8 and 10.
-func TestIsFaulty(t *testing.T) {
-	for number := uint32(1); number <= 10; number++ {
-		if got, wanted := IsFaulty(&Refusal{number, 0}), number == 8 || number == 10; got != wanted {
-			t.Errorf("%d: %v", number, got)
-		}
-	}
-	if IsFaulty(nil) || IsFaulty(errors.New("refused 8 0")) {
-		t.Error("no refusal")
 	}
 }
 

@@ -1,4 +1,4 @@
-// Package corpus holds the front end to Go itself: to Go's own error tests, to go/parser, to go/types and to vet, on all of Go's
+// Package corpus holds the front end to Go itself: to Go's own error tests, to go/parser, and to go/types, on all of Go's
 // source. It has tests only, and they need Go 1.19 with its source and its tests, as in Debian's package golang-src.
 package corpus
 

@@ -23,10 +23,6 @@ const (
 	MultipleDefaults
 	// Refused: a body that is over a limit.
 	Refused
-	// Unreachable: a statement that no walk comes to.
-	Unreachable
-	// Unlisted: a body that isn't looked through for these, since it has faults.
-	Unlisted
 )
 
 // A Finding is something to tell at a place.

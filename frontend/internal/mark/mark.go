@@ -66,8 +66,8 @@ func (r *Result) sort() {
 	sort.SliceStable(r.Findings, func(i, j int) bool { return r.Findings[i].Position < r.Findings[j].Position })
 }
 
-// Faults are those of one body that stand in the way of a walk, and of a list of its unreachable rows, in the order of their
-// places: its multiple defaults, or its label faults and misplaced branches.
+// Faults are those of one body that stand in the way of a walk, in the order of their places: its multiple defaults, or its
+// label faults and misplaced branches.
 func (r *Result) Faults(b *Body) []Finding {
 	one := Result{Script: r.Script}
 	one.multipleDefaults(b)

@@ -1,5 +1,5 @@
-//! Compares the port with goscript on bodies of many sorts, and its walks and
-//! unreachable rows with document 01's runner.
+//! Compares the port with goscript on bodies of many sorts, and its walks with
+//! document 01's runner.
 
 mod course;
 mod difference;
@@ -10,8 +10,6 @@ mod kinds;
 mod lawful;
 mod lent;
 mod letters;
-mod listed;
-mod long;
 mod names;
 mod numbers;
 mod occurred;
@@ -20,7 +18,6 @@ mod phases;
 mod port;
 mod progress;
 mod random;
-mod reach;
 mod run;
 mod runner;
 mod shapes;
@@ -29,7 +26,6 @@ mod shrink;
 mod stock;
 mod table;
 mod tally;
-mod unreached;
 mod walk;
 mod walked;
 mod walks;

@@ -1,6 +1,5 @@
 //! What occurred, so that a comparison that never saw a case can say so.
 
-use crate::listed::Listed;
 use crate::numbers::grouped;
 use crate::tally::Tally;
 use crate::walked::Walked;
@@ -27,9 +26,8 @@ pub struct Occurred {
     same_verdict: u64,
     /// The labelled branches of all bodies.
     tally: Tally,
-    /// The walks and unreachable rows of all bodies without faults.
+    /// The walks of all bodies without faults.
     walked: Walked,
-    listed: Listed,
 }
 
 impl Occurred {
@@ -55,7 +53,6 @@ impl Occurred {
         self.refusals[8] += seen.walked.faulty;
         self.refusals[9] += seen.walked.out_of_range();
         self.walked.add(&seen.walked);
-        self.listed.add(&seen.listed);
     }
 
     pub fn refused(&mut self, number: u32) {
@@ -79,16 +76,11 @@ impl Occurred {
         look("domain of stock's", 1, &[self.same_labels, self.same_verdict]);
         look("labelled branch (1 bound, 2 not)", 1, &[self.tally.bound, self.tally.unbound]);
         look("step from kind", 0, &self.walked.kinds);
-        look("unreachable row of kind", 0, &self.listed.kinds);
-        look("unreachable rows, refusal 8", 1, &[self.listed.faulty]);
-        look("no unreachable row, verdict (0 no, 1 yes)", 0, &self.listed.verdicts);
         let never = |(_, count): &(&str, u64)| *count == 0;
         missing.extend(
             self.walked.by_branch().filter(never).map(|(name, _)| format!("step by {name}")),
         );
         missing.extend(self.walked.by_end().filter(never).map(|(name, _)| format!("walk {name}")));
-        missing.extend(self.listed.by_list().filter(never).map(|(name, _)| format!("list {name}")));
-        missing.extend(self.listed.by_sort().filter(never).map(|(name, _)| name.to_string()));
         missing
     }
 
@@ -112,7 +104,6 @@ impl Occurred {
         let [labelled, bound, unbound] = [labelled, bound, unbound].map(grouped);
         println!("Labelled branches {labelled}: bound {bound}, on the sheet with 4 to 8 {unbound}");
         self.show_walks();
-        self.show_lists();
     }
 
     fn show_walks(&self) {
@@ -123,18 +114,6 @@ impl Occurred {
         println!("  {}", named(self.walked.by_end()));
         println!("  steps from kind  {}", list(0, kinds));
         println!("  steps by {}", named(self.walked.by_branch()));
-    }
-
-    fn show_lists(&self) {
-        let Listed { faulty, kinds, verdicts, .. } = &self.listed;
-        let [faulty, no, yes] = [*faulty, verdicts[0], verdicts[1]].map(grouped);
-        println!(
-            "Lists of unreachable rows: {}; refused with 8 {faulty}",
-            named(self.listed.by_list())
-        );
-        println!("  rows of kind  {}", list(0, kinds));
-        println!("  {}", named(self.listed.by_sort()));
-        println!("  where empty, verdict no and the brace reached {no}, yes and not reached {yes}");
     }
 }
 

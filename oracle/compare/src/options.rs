@@ -1,10 +1,10 @@
 //! The command's options.
 
 pub const HELP: &str = "\
-Compares the port with goscript, and its walks and unreachable rows with
-document 01's runner, in one process, and ends at the first difference. Bodies
-without faults are walked by random choices, which hang on the body alone.
-Standard error has the progress, standard output a table and what occurred.
+Compares the port with goscript, and its walks with document 01's runner, in
+one process, and ends at the first difference. Bodies without faults are walked
+by random choices, which hang on the body alone. Standard error has the
+progress, standard output a table and what occurred.
 
   --random N   how many random bodies, in all phases together (default 1000000)
   --seed N     the seed of the random bodies (default 1)

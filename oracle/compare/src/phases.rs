@@ -3,7 +3,7 @@
 use crate::options::Options;
 use crate::random::{Source, RANDOM};
 use crate::run::{Run, Step};
-use crate::{edges, long, shapes};
+use crate::{edges, shapes};
 use oracle::bodies::{at_limits, every, fallthroughs, Rng};
 
 pub fn all(run: &mut Run, options: &Options) -> Step {
@@ -36,10 +36,6 @@ fn at_edges(run: &mut Run) -> Step {
     let bodies = at_limits();
     run.phase("at the limits", bodies.len() as u64, |phase| {
         bodies.iter().try_for_each(|(_, body)| phase.body(body))
-    })?;
-    let bodies = long::long();
-    run.phase("long ways in 2,000 rows", bodies.len() as u64, |phase| {
-        bodies.iter().try_for_each(|body| phase.body(body))
     })?;
     let words = edges::both_sides();
     run.phase("both sides of each limit", words.len() as u64, |phase| {

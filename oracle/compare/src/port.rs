@@ -6,10 +6,6 @@ use crate::walk::Walk;
 use oracle::{Answer, Body, Marks, Words};
 use zesthull::{Place, Refusal};
 
-/// A buffer too short, and a body with a fault.
-pub const TOO_SHORT: Refusal = Refusal { number: 7, index: 0 };
-pub const FAULTY: Refusal = Refusal { number: 8, index: 0 };
-
 pub fn lend(body: &Body) -> zesthull::Body<'_> {
     let (rows, pairs) = (body.rows.as_flattened(), body.pairs.as_flattened());
     zesthull::Body { rows, pairs, bytes: &body.bytes }
@@ -51,12 +47,6 @@ pub fn walk(body: &Body, choices: &[u32], limit: usize) -> Result<Walk, Refusal>
         Place::Brace => State::Brace,
     };
     Ok(Walk { place, steps, used })
-}
-
-/// The unreachable rows, which the call writes to the words lent.
-pub fn unreachable(body: &Body, lent: &mut [u32]) -> Result<Vec<u32>, Refusal> {
-    let count = zesthull::unreachable(lend(body), lent)?;
-    Ok(lent.iter().take(count).copied().collect())
 }
 
 /// A refusal or none, as text.

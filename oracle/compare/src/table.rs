@@ -32,8 +32,7 @@ answers: of each body not refused; refusal (none), sheet, bindings and verdict
   marks call with all of these; sheet and bindings lent longer than needed, as
   long, and one word short; stock inside its domains; goscript's labelled
   branches add up, those bound and those on the sheet; walks of bodies without
-  faults by random choices with document 01's runner read plainly, their
-  unreachable rows with a search over it, the verdict with its brace where there
-  are none; lists lent as sheet and bindings are; refusal 8 of bodies with a fault
+  faults by random choices with document 01's runner read plainly, and refusal 8
+  of bodies with a fault
 refusals: of words refused; number and index in every call with documents 01
   and 02 read plainly; no lent word changed; names";

@@ -2,17 +2,20 @@
 
 use crate::course::Course;
 use crate::difference::{caught, same, Checked, Difference};
-use crate::port::{self, refusal_text, FAULTY};
+use crate::port::{self, refusal_text};
 use crate::walk::{walk, Answer, Walk};
 use crate::walked::Walked;
 use oracle::bodies::Rng;
 use oracle::{Body, Marks};
+use zesthull::Refusal;
+
+const FAULTY: Refusal = Refusal { number: 8, index: 0 };
 
 /// Compares the port's walks of a body with the runner read plainly; a body
 /// with a fault is refused, whatever is given.
 pub fn check(body: &Body, marks: &Marks) -> Checked<Walked> {
     let mut walked = Walked::default();
-    if has_fault(marks) {
+    if !marks.answer.sheet.is_empty() || marks.badly_placed.is_some() {
         for (choices, limit) in [(&[][..], 0), (&[u32::MAX], usize::MAX)] {
             let port = port::walk(body, choices, limit);
             same("walk of a body with a fault", &port, &Err(FAULTY), text)?;
@@ -31,11 +34,6 @@ pub fn check(body: &Body, marks: &Marks) -> Checked<Walked> {
         }
     }
     Ok(walked)
-}
-
-/// Whether a body has a row on its sheet or one badly placed.
-pub fn has_fault(marks: &Marks) -> bool {
-    !marks.answer.sheet.is_empty() || marks.badly_placed.is_some()
 }
 
 /// A seed of a body's own: the same body is always walked the same way.

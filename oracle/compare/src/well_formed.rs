@@ -2,17 +2,19 @@
 
 use crate::difference::{caught, same, unchanged, Checked};
 use crate::lent::Lent;
-use crate::listed::Listed;
-use crate::port::{at_once, lend, one_by_one, refusal_text, TOO_SHORT};
+use crate::names;
+use crate::port::{at_once, lend, one_by_one, refusal_text};
 use crate::stock::{self, Beside};
 use crate::tally::{self, Tally};
 use crate::walked::Walked;
-use crate::{names, unreached, walks};
+use crate::walks;
 use oracle::{Body, Marks};
 use zesthull::Refusal;
 
 /// Words lent beyond those needed.
 const MORE: usize = 11;
+
+const TOO_SHORT: Refusal = Refusal { number: 7, index: 0 };
 
 /// What was seen where nothing differs.
 pub struct Seen {
@@ -20,7 +22,6 @@ pub struct Seen {
     pub stock: Beside,
     pub tally: Tally,
     pub walked: Walked,
-    pub listed: Listed,
 }
 
 pub fn check(body: &Body) -> Checked<Seen> {
@@ -38,8 +39,7 @@ pub fn check(body: &Body) -> Checked<Seen> {
     let stock = stock::check(body, &marks.answer)?;
     let tally = tally::check(body, &marks.answer)?;
     let walked = walks::check(body, &marks)?;
-    let listed = unreached::check(body, &marks)?;
-    Ok(Seen { marks, stock, tally, walked, listed })
+    Ok(Seen { marks, stock, tally, walked })
 }
 
 type Call = fn(zesthull::Body, &mut Lent) -> Result<Marks, Refusal>;

@@ -33,13 +33,12 @@ pub fn check(words: &Words) -> Checked<Seen> {
 type Call = fn(zesthull::Body, &mut Lent) -> Option<Refusal>;
 
 /// The other calls, as far as they refuse.
-const CALLS: [(&str, Call); 6] = [
+const CALLS: [(&str, Call); 5] = [
     ("label call", |body, lent| zesthull::labels(body, &mut lent.sheet, &mut lent.bindings).err()),
     ("placing call", |body, _| zesthull::placing(body).err()),
     ("verdict call", |body, _| zesthull::verdict(body).err()),
     ("marks call", |body, lent| zesthull::marks(body, &mut lent.sheet, &mut lent.bindings).err()),
     ("walk call", |body, _| zesthull::walk(body, &[u32::MAX], 9).err()),
-    ("unreachable call", |body, lent| zesthull::unreachable(body, &mut lent.list).err()),
 ];
 
 /// Every call gives the same refusal and writes nothing, be the buffers long
@@ -51,7 +50,7 @@ fn refused(words: &Words, refusal: Refusal) -> Checked<Seen> {
         for (what, call) in CALLS {
             let port = call(lend_words(words), &mut lent);
             same(what, &port, &Some(refusal), refusal_text)?;
-            unchanged(format_args!("{what}: words lent"), lent.unchanged())?;
+            unchanged(format_args!("{what}: sheet and bindings"), lent.unchanged())?;
         }
     }
     Ok(Seen::Refused(refusal.number))

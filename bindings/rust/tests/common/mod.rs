@@ -3,7 +3,6 @@
 #![allow(dead_code)]
 
 pub mod bodies;
-pub mod flow;
 
 use zesthull::{Body, Marks, Place, Refusal, Walk};
 
@@ -90,7 +89,6 @@ pub fn expect_answer(what: &str, words: &Words, answer: Answer) {
     assert_eq!(zesthull::placing(words.body()), Ok(answer.placing), "placing of {what}");
     assert_eq!(zesthull::verdict(words.body()), Ok(answer.verdict), "verdict of {what}");
     expect_first_place(what, words, answer);
-    expect_listed(what, words, answer);
     for more in [0, 1, 9] {
         expect_written(what, words, answer, more);
     }
@@ -105,24 +103,6 @@ fn expect_first_place(what: &str, words: &Words, answer: Answer) {
         false => Err(Refusal { number: 8, index: 0 }),
     };
     assert_eq!(zesthull::walk(words.body(), &[9], 0), due, "walk of {what}");
-}
-
-/// Tries the unreachable call with a buffer too short, just long enough and longer. Where the body has
-/// a fault it is refused; else the words past the list stay. The lists are in unreachable.rs.
-#[track_caller]
-fn expect_listed(what: &str, words: &Words, answer: Answer) {
-    let rows = words.row_count();
-    expect_unlisted(what, words, rows - 1, Refusal { number: 7, index: 0 });
-    for lent in [rows, rows + 9] {
-        if !answer.sheet.is_empty() || answer.placing.is_some() {
-            expect_unlisted(what, words, lent, Refusal { number: 8, index: 0 });
-            continue;
-        }
-        let mut list = pattern(lent);
-        let count = zesthull::unreachable(words.body(), &mut list).unwrap();
-        assert!(count < rows, "{count} unreachable rows of {what}");
-        assert_eq!(list[count..], pattern(lent)[count..], "words past the list of {what}");
-    }
 }
 
 /// Tries the label call and the marks with so many words more than they need.
@@ -158,8 +138,6 @@ pub fn expect_refusal(what: &str, words: &Words, number: u32, index: usize) {
     assert_eq!(zesthull::walk(words.body(), &[9], 9), Err(refusal), "walk of {what} by a choice");
     let rows = words.row_count();
     expect_unwritten(what, words, (8 * rows + 8, rows + 1), refusal);
-    expect_unlisted(what, words, rows + 1, refusal);
-    expect_unlisted(what, words, 0, refusal);
     assert_eq!(*words, before, "the words of {what}");
 }
 
@@ -173,13 +151,4 @@ pub fn expect_unwritten(what: &str, words: &Words, lent: (usize, usize), refusal
     assert_eq!(marks, Err(refusal), "marks of {what}");
     assert_eq!(sheet, pattern(lent.0), "sheet of {what}");
     assert_eq!(bindings, pattern(lent.1), "bindings of {what}");
-}
-
-/// Tries the unreachable call with a buffer of so many words: it refuses and writes nothing.
-#[track_caller]
-pub fn expect_unlisted(what: &str, words: &Words, lent: usize, refusal: Refusal) {
-    let mut list = pattern(lent);
-    let count = zesthull::unreachable(words.body(), &mut list);
-    assert_eq!(count, Err(refusal), "unreachable rows of {what}, {lent} words");
-    assert_eq!(list, pattern(lent), "list of {what}");
 }

@@ -15,9 +15,9 @@ use borrow.Author.Tests.{le-ltb}
 use Rattle.rules.specs.Scan.{lowest}
 use Rattle.rules.specs.Rows.{row_count, depth}
 use Rattle.rules.specs.Refusals.{holding, bad_row_words, bad_row, bad_size, bad_shape, second_default, causes, WellFormed}
-use Rattle.rules.specs.Class.{Class, case_block, comm_block, is_clause_block, class}
+use Rattle.rules.specs.Class.{Class, case_block, comm_block, class}
 use Rattle.rules.specs.Body.{Sized, Detailed}
-use Rattle.rules.proofs.ClassRules.{by_one}
+use Rattle.rules.proofs.ClassRules.{is_clause_block, by_one}
 use Rattle.rules.proofs.Shape.{child_within}
 use Rattle.rules.proofs.Defaults.{none-second}
 use Rattle.rules.proofs.Scan.{lowest-none, none-lowest}

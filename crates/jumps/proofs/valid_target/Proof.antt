@@ -72,7 +72,7 @@ returns-3 c =
     let detail = c.before.before.detail in
     valid-continue s.pre.0.body _ s.pre.1.1.0 _ enclosing_target.ensures if1.left _ kind.ensures _
     (not-zero-continue s.args.rows.now _ (s.pre.0.body.details _ s.pre.1.1.0) s.pre.1.1.1 (λ e. if2.false (detail.ensures ∙ e)))
-    c.is_loop.ensures
+    c.is_Loop.ensures
 
 pub valid-target-spec : {M : Type 1} → statement M
 valid-target-spec =

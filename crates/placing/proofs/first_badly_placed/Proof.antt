@@ -118,7 +118,7 @@ loop-again d =
       below_more _ _ v.0 (sym k.before.before.badly-placed.ensures ∙ k.before.if2.false),
       reach-more _ is_breakable _ _ _ _ _ (by-words is_breakable _ _ _ _ (own-breakable _ l.loop.r) k.kind.ensures a b.is-breakable.ensures) e v.1
           c.before.before.later-end.ensures,
-      reach-more _ is_loop _ _ _ _ _ (by-words is_loop _ _ _ _ (own-loop _ l.loop.r) k.kind.ensures a c.before.is_loop.ensures) e v.2
+      reach-more _ is_loop _ _ _ _ _ (by-words is_loop _ _ _ _ (own-loop _ l.loop.r) k.kind.ensures a c.before.is_Loop.ensures) e v.2
           c.later-end2.ensures,
     )
 

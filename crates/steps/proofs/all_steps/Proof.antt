@@ -6,28 +6,23 @@ use native.Mathlib.Omega.{arith}
 use borrow.Author.Rules.{rules}
 use lib.ListN.{length, length-set}
 use Rattle.rules.specs.Rows.{row_count}
-use Rattle.rules.specs.Body.{Body}
-use Rattle.destinations.proofs.Places.{formed}
 use Rattle.steps.proofs.AllRows.{StepsTo, steps-start, row_room, end-small, steps-more, steps-end}
 use Rattle.steps.proofs.all_steps.Statement.{statement}
 use Rattle.steps.proofs.all_steps.Tie as tie
 
 abbrev invariant-loop : tie.invariant-loop
-invariant-loop rows pairs bytes bindings afters breakables loops cases firsts₀ steps₀ count first₀ r₀ firsts steps first r =
+invariant-loop rows pairs bytes afters destinations firsts₀ steps₀ count first₀ r₀ firsts steps first r =
     (r ≤ row_count rows) × (length firsts ≡ length firsts₀) × (length steps ≡ length steps₀) × StepsTo rows pairs bytes firsts steps r first
 
 abbrev decreases-loop : tie.decreases-loop
-decreases-loop rows pairs bytes bindings afters breakables loops cases firsts₀ steps₀ count first₀ r₀ firsts steps first r = count - r
+decreases-loop rows pairs bytes afters destinations firsts₀ steps₀ count first₀ r₀ firsts steps first r = count - r
 
 -- ---- points of the code
 abbrev at-start : tie.After-slice-known2 invariant-loop decreases-loop → tie.Start invariant-loop decreases-loop
-at-start c = c.before.before.before.before.before.before.before.before.before.before
+at-start c = c.before.before.before.before.before.before.before
 
 abbrev in-turn : tie.After-slice-known3 invariant-loop decreases-loop → tie.In-loop invariant-loop decreases-loop
 in-turn c = c.before.before.before.before
-
-is_body_lem : (c : tie.After-slice-known2 invariant-loop decreases-loop) → let a = (at-start c).args in Body a.rows.now a.pairs.now a.bytes.now
-is_body_lem c = formed (at-start c).requires.0.faultless
 
 slice-write-firsts : tie.Need-slice-write-firsts invariant-loop decreases-loop
 slice-write-firsts c = omega (arith, (at-start c).requires.1.0)
@@ -42,13 +37,13 @@ row-steps-requires c κs =
     let t = c.before in
     let v = t.before.loop.invariant in
     let p = (at-start t.before.before).pre in
-    ((p.0, t.loop-test.true), row_room (is_body_lem t.before.before) t.loop-test.true v.3 _ (omega (arith, p.1.1, v.2)))
+    ((p.0, t.loop-test.true), row_room p.0.body t.loop-test.true v.3 _ (omega (arith, p.1.1, v.2)))
 
 -- the first step of the next row is a small number
 small : (c : tie.After-slice-known3 invariant-loop decreases-loop) → c.before.before.row-steps.result ≤ 6000
 small c =
     let t = in-turn c in
-    end-small (is_body_lem t.before.before) t.loop-test.taken t.before.loop.inv.3 c.before.before.row-steps.ensures
+    end-small (at-start t.before.before).pre.0.body t.loop-test.taken t.before.loop.inv.3 c.before.before.row-steps.ensures
 
 cast-firsts : tie.Need-overflow-cast-firsts invariant-loop decreases-loop
 cast-firsts c = omega (arith, small c)
@@ -57,7 +52,7 @@ add-firsts : tie.Need-overflow-add-firsts invariant-loop decreases-loop
 add-firsts c = search rules
 
 mul-firsts : tie.Need-overflow-mul-firsts invariant-loop decreases-loop
-mul-firsts c = let m = (is_body_lem (in-turn c).before.before).most_rows in search rules
+mul-firsts c = let m = (at-start (in-turn c).before.before).pre.0.body.most_rows in search rules
 
 slice-write-firsts-2 : tie.Need-slice-write-firsts-2 invariant-loop decreases-loop
 slice-write-firsts-2 c = let t = in-turn c in omega (arith, t.loop-test.taken, t.before.loop.inv.3.room)
@@ -74,8 +69,8 @@ loop-again c =
     let v = t.before.loop.inv in (
       omega (arith, t.loop-test.taken),
       length-set t.before.loop.firsts _ _ ∙ v.1,
-      c.before.before.row-steps.auto.1.1.1.1.1.1.1.1.1.1.0 ∙ v.2,
-      steps-more (is_body_lem t.before.before) t.loop-test.taken v.3 c.before.before.row-steps.ensures,
+      c.before.before.row-steps.auto.1.1.1.1.1.1.1.0 ∙ v.2,
+      steps-more (at-start t.before.before).pre.0.body t.loop-test.taken v.3 c.before.before.row-steps.ensures,
     )
 
 same_length : tie.Need-same-length invariant-loop decreases-loop
@@ -88,7 +83,7 @@ returns : tie.Need-returns invariant-loop decreases-loop
 returns c =
     let v = c.before.loop.invariant in
     let p = (at-start c.before.before).pre in
-    steps-end (is_body_lem c.before.before) v.3 (omega (arith, c.loop-test.false)) (omega (arith, p.1.1, v.2))
+    steps-end p.0.body v.3 (omega (arith, c.loop-test.false)) (omega (arith, p.1.1, v.2))
 
 pub all-steps-spec : {M : Type 1} → statement M
 all-steps-spec =

@@ -32,8 +32,8 @@ first_of : (c : tie.After-next-default)
 first_of c = rw (← add-one (at-start c).args.row.0) c.next-default.ensures
 
 -- the first default is a row
-is-row : (c : tie.Else1) → c.before.next-default.result < row_count (rows (at-start c.before))
-is-row c =
+is_row : (c : tie.Else1) → c.before.next-default.result < row_count (rows (at-start c.before))
+is_row c =
     let s = at-start c.before in
     omega (arith, c.if1.false, c.before.next-default.ensures.high, ends c.before, s.pre.2.within s.args.row.0 s.pre.0)
 
@@ -55,13 +55,13 @@ returns : tie.Need-returns
 returns c = no_default (ends c.before) (first_of c.before) c.if1.true
 
 size-requires-2 : tie.Need-size-requires-2
-size-requires-2 c κs = is-row c
+size-requires-2 c κs = is_row c
 
 add-next-default-2 : tie.Need-overflow-add-next-default-2
 add-next-default-2 c =
     let e = c.before in
     let s = at-start e.before in
-    omega (arith, c.size2.ensures, is-row e, s.pre.1, s.pre.2.within e.before.next-default.result (is-row e))
+    omega (arith, c.size2.ensures, is_row e, s.pre.1, s.pre.2.within e.before.next-default.result (is_row e))
 
 next-default-requires-2 : tie.Need-next-default-requires-2
 next-default-requires-2 c κs =
@@ -73,7 +73,7 @@ next-default-requires-2 c κs =
 some_rows : (c : tie.After-size2) → 0 < c.size2.result
 some_rows c =
     let e = c.before in
-    omega (arith, c.size2.ensures, (at-start e.before).requires.2.some_rows e.before.next-default.result (is-row e))
+    omega (arith, c.size2.ensures, (at-start e.before).requires.2.some_rows e.before.next-default.result (is_row e))
 
 returns-2 : tie.Need-returns-2
 returns-2 c =

@@ -1,3 +1,0 @@
-pub mod Inherited
-pub mod FromParent
-pub mod Written

@@ -1,0 +1,53 @@
+// The statement around each row that an unlabelled break leaves, the loop that an unlabelled continue
+// goes to and the Case that a fallthrough leaves, in one pass: a row's own are its parent, if that is
+// one, or its parent's.
+ghost use Rattle.std.specs.Prelude.{◌≡◌, true, false, suc, ◌≤◌, length};
+ghost use Rattle.rules.specs.Rows.{row_count};
+ghost use Rattle.rules.specs.Class.{is_breakable, is_loop, is_case};
+ghost use Rattle.rules.specs.Body.{Formed};
+ghost use Rattle.parents.specs.Parents.{Parents};
+ghost use Rattle.enclosing.specs.Enclosing.{Enclosing};
+
+use rows::{RowNumber, kinds};
+
+// 1 + the parent p, if it is such a row, else the parent's own word.
+fn from_parent(is_one: bool, p: usize, above: u16) -> u16
+    requires { p ≤ 2000 }
+    ensures { result ≡ elim is_one [ true ↦ suc p | false ↦ above ] }
+{
+    if is_one {
+        return (p + 1) as u16;
+    }
+    above
+}
+
+// Writes for each row 1 + the innermost such row around it, or 0.
+pub fn enclosing_of(
+    rows: &[u32],
+    parents: &[u16],
+    breakables: &mut [u16],
+    loops: &mut [u16],
+    cases: &mut [u16],
+)
+    requires formed { Formed rows.now × Parents rows.now parents.now × (row_count rows.now ≤ length parents.now) }
+    requires rows_in_bounds { (row_count rows.now ≤ length breakables.old) × (row_count rows.now ≤ length loops.old) × (row_count rows.now ≤ length cases.old) }
+    ensures breakables { Enclosing rows.now is_breakable breakables.new }
+    ensures loops { Enclosing rows.now is_loop loops.new }
+    ensures cases { Enclosing rows.now is_case cases.new }
+{
+    let count = rows.len() / 5;
+    breakables[0] = 0;
+    loops[0] = 0;
+    cases[0] = 0;
+    let mut r = 1;
+    while r < count {
+        let p = parents[r] as usize - 1;
+        let kind = rows::kind(rows, RowNumber(p));
+        let is_breakable = kinds::is_breakable(kind);
+        let is_loop = kinds::is_loop(kind);
+        breakables[r] = from_parent(is_breakable, p, breakables[p]);
+        loops[r] = from_parent(is_loop, p, loops[p]);
+        cases[r] = from_parent(kind == kinds::CASE, p, cases[p]);
+        r += 1;
+    }
+}
