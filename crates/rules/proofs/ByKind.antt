@@ -111,7 +111,7 @@ abbrev holding_numbered : ℕ → Holding
 holding_numbered n = get_or (nothing ∷ statement ∷ body ∷ branches ∷ statements ∷ cases ∷ comms ∷ []) n nothing
 
 numbered : (h : Holding) → holding_numbered (holding_number h) ≡ h
-numbered h = elim h [ nothing ↦ refl | statement ↦ refl | body ↦ refl | branches ↦ refl | statements ↦ refl | cases ↦ refl | comms ↦ refl ]
+numbered h = elim h as (λ k. holding_numbered (holding_number k) ≡ k) [ nothing ↦ refl | statement ↦ refl | body ↦ refl | branches ↦ refl | statements ↦ refl | cases ↦ refl | comms ↦ refl ]
 
 abbrev same_holding : Holding → Holding → Bool
 same_holding g h = eqb (holding_number g) (holding_number h)

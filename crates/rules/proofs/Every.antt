@@ -55,7 +55,7 @@ class_at n = get_or
     n plain
 
 pub class-at : (c : Class) → class_at (code c) ≡ c
-class-at c = elim c [
+class-at c = elim c as (λ k. class_at (code k) ≡ k) [
   | plain ↦ refl
   | declaration ↦ refl
   | empty ↦ refl
@@ -82,7 +82,7 @@ class-at c = elim c [
 ]
 
 code-small : (c : Class) → code c < 23
-code-small c = elim c [
+code-small c = elim c as (λ k. code k < 23) [
   | plain ↦ lit< tt
   | declaration ↦ lit< tt
   | empty ↦ lit< tt

@@ -61,7 +61,7 @@ module _ (w : List ℕ) where
   number-of-item sized zero h m (later l i) = absurd (omega arith)
   number-of-item sized {e} {c} (suc f) h m (here l) = (0, rw (lt-ltb c e l, item_count) (omega arith), refl)
   number-of-item sized {e} {c} (suc f) h m (later l i) =
-      let r = number-of-item sized f (omega (arith, sized.some_rows c (omega arith))) m i in
+      let r = number-of-item sized {c = end w c} f (omega (arith, sized.some_rows c (omega arith))) m i in
       (suc r.0, rw (lt-ltb c e l, item_count) (omega (arith, r.1)), r.2)
 
 -- ---- a default, as one of the clauses
@@ -85,7 +85,7 @@ module _ (w : List ℕ) where
   no_default sized {e} {c} (suc f) h m t (here l) =
       (or-false (is_default (class w c)) (any_default w f e (end w c)) (rw (lt-ltb c e l, any_default) at t)).0
   no_default sized {e} {c} (suc f) h m t (later l i) =
-      no_default sized f (omega (arith, sized.some_rows c (omega arith))) m
+      no_default sized {c = end w c} f (omega (arith, sized.some_rows c (omega arith))) m
       (or-false (is_default (class w c)) (any_default w f e (end w c)) (rw (lt-ltb c e l, any_default) at t)).1 i
 
   pub with-default : Sized w → (r : ℕ) → r < row_count w → OneChild w r → has_default w r ≡ true → (s : ℕ) × Child w (suc r) s × (is_default (class w s) ≡ true)
