@@ -16,7 +16,7 @@ use rows::RowNumber;
 use rows_fit::well_formed_rows;
 
 // Whether a body is refused or well-formed.
-#[derive(Drop)]
+#[derive(Clone, Copy)]
 pub enum Checked {
     Refused(Refusal),
     WellFormed,

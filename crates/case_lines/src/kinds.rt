@@ -1,7 +1,7 @@
 // What a line of the list is.
 use testing::words;
 
-#[derive(Drop)]
+#[derive(Clone, Copy)]
 pub enum Kind {
     Rows,
     Pairs,

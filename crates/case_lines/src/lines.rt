@@ -5,7 +5,7 @@ use testing::{show, words};
 
 // How many row words, pair words and name bytes are in use; NOT_TAKEN where a line couldn't be
 // taken.
-#[derive(Drop)]
+#[derive(Clone, Copy)]
 pub struct Used {
     pub rows: usize,
     pub pairs: usize,

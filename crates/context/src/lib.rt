@@ -3,7 +3,7 @@
 ghost use Rattle.std.specs.Prelude.{◌≡◌};
 ghost use Rattle.context.specs.Fields.{with_latest, with_label};
 
-#[derive(Drop)]
+#[derive(Clone, Copy)]
 pub struct Context {
     pub latest: usize,
     pub label: usize,

@@ -4,7 +4,7 @@ ghost use Rattle.input.specs.Reads.{uncounted, is_last};
 
 // What is known of an input: how many bytes have been read, and whether those are all. An input of
 // 2^37 bytes or more isn't counted further.
-#[derive(Drop)]
+#[derive(Clone, Copy)]
 pub struct Input {
     pub length: u64,
     pub ended: bool,

@@ -17,7 +17,7 @@ use refusals::Refusal;
 use rows::RowNumber;
 
 // The answer: the sheet's row count, or why there is none.
-#[derive(Drop)]
+#[derive(Clone, Copy)]
 pub enum LabelAnswer {
     Refused(Refusal),
     Faults(usize),

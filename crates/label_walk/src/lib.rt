@@ -200,7 +200,7 @@ fn labeled_branches(
 
 // What the walk hands on from row to row beside its tables: the sheet's row count, and the list in
 // hand.
-#[derive(Drop)]
+#[derive(Clone, Copy)]
 struct Step {
     faults: usize,
     list: usize,

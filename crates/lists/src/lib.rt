@@ -10,7 +10,7 @@ ghost use Rattle.lists.specs.Listed.{Open, EndsAt, InHand, ListAround, ListedBel
 use rows::{RowNumber, kinds};
 
 // The list around a row, 1 + its own row or 0 for none, and where it ends.
-#[derive(Drop)]
+#[derive(Clone, Copy)]
 pub struct Around {
     pub list: usize,
     pub end: usize,

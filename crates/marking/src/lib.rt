@@ -12,7 +12,7 @@ use refusals::Refusal;
 use rows::RowNumber;
 
 // The marks beside the sheet and the bindings.
-#[derive(Drop)]
+#[derive(Clone, Copy)]
 pub struct Marks {
     // the sheet's row count
     pub faults: usize,
@@ -22,7 +22,7 @@ pub struct Marks {
     pub terminating: bool,
 }
 
-#[derive(Drop)]
+#[derive(Clone, Copy)]
 pub enum Marking {
     Refused(Refusal),
     Marked(Marks),

@@ -8,11 +8,11 @@ ghost use Rattle.rules.specs.Names.{count_of_pairs, bad_name_words, bad_pair, na
 ghost use Rattle.names.specs.Place.{place};
 
 // A name number: 0 for none, n from 1 for the n-th pair. Never a row number.
-#[derive(Drop)]
+#[derive(Clone, Copy)]
 pub struct NameNumber(pub usize);
 
 // Where a search ended.
-#[derive(Drop)]
+#[derive(Clone, Copy)]
 pub enum Found {
     At(usize),
     Nowhere,

@@ -20,7 +20,7 @@ use names::Found;
 use refusals::Refusal;
 use rows::{RowNumber, details, kinds};
 
-#[derive(Drop)]
+#[derive(Clone, Copy)]
 pub enum Placing {
     Refused(Refusal),
     // the first row badly placed
@@ -30,7 +30,7 @@ pub enum Placing {
 
 // Where the search for a row badly placed ended. It needs each row's list where it comes to an
 // unlabelled fallthrough.
-#[derive(Drop)]
+#[derive(Clone, Copy)]
 enum Search {
     At(usize),
     Nowhere,

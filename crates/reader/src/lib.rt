@@ -9,7 +9,7 @@ use placing::Placing;
 use returns::Verdict;
 
 // A body's row words, held.
-#[derive(Drop)]
+#[derive(Clone, Copy)]
 pub struct Reader<'a> {
     pub rows: &'a [u32],
 }

@@ -5,7 +5,7 @@ ghost use Rattle.refusals.specs.Returned.{returned};
 use rows::RowNumber;
 
 // In the order in which the causes are tried.
-#[derive(Drop)]
+#[derive(Clone, Copy)]
 pub enum Refusal {
     // 1: row words empty, not a multiple of 5, or over 2,000 rows
     RowWords,

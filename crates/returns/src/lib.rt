@@ -15,7 +15,7 @@ use names::{Found, NameNumber};
 use refusals::Refusal;
 use rows::{RowNumber, details, kinds};
 
-#[derive(Drop)]
+#[derive(Clone, Copy)]
 pub enum Verdict {
     Refused(Refusal),
     Yes,

@@ -9,7 +9,7 @@ ghost use Rattle.rules.specs.Rows.{row_count, kind, detail, position, name, size
 use names::NameNumber;
 
 // A row's number, from 0. Never a name number.
-#[derive(Drop)]
+#[derive(Clone, Copy)]
 pub struct RowNumber(pub usize);
 
 fn wide(word: u32) -> usize

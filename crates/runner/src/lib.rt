@@ -14,7 +14,7 @@ use body::Checked;
 use refusals::Refusal;
 use rows::{RowNumber, details, kinds};
 
-#[derive(Drop)]
+#[derive(Clone, Copy)]
 pub enum Place {
     Stopped,
     // the closing brace
@@ -22,7 +22,7 @@ pub enum Place {
     Row(RowNumber),
 }
 
-#[derive(Drop)]
+#[derive(Clone, Copy)]
 pub struct WalkEnd {
     pub place: Place,
     // the steps made
@@ -31,7 +31,7 @@ pub struct WalkEnd {
     pub used: usize,
 }
 
-#[derive(Drop)]
+#[derive(Clone, Copy)]
 pub enum WalkAnswer {
     Refused(Refusal),
     Reached(WalkEnd),

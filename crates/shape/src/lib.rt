@@ -13,7 +13,7 @@ use names::Found;
 use rows::{RowNumber, details, kinds};
 
 // What stands below a row.
-#[derive(Drop)]
+#[derive(Clone, Copy)]
 pub enum Holding {
     // size 1
     Nothing,

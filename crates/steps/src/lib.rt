@@ -13,7 +13,7 @@ ghost use Rattle.steps.specs.Written.{Tables, ClausesWritten, TwoWritten, RowWri
 use rows::RowNumber;
 
 // Where the steps to the clauses end, and whether one is a default.
-#[derive(Drop)]
+#[derive(Clone, Copy)]
 struct Clauses {
     end: usize,
     default: bool,

@@ -2,11 +2,11 @@
 use std::num::{wrapping_add_u32, wrapping_add_usize, wrapping_sub_u32};
 
 // The kind, detail, name and size of a row. Its position is 1.
-#[derive(Drop)]
+#[derive(Clone, Copy)]
 pub struct Row(pub u32, pub u32, pub u32, pub u32);
 
 // Row numbers: the first, the step from each to the next, and how many there are.
-#[derive(Drop)]
+#[derive(Clone, Copy)]
 pub struct Run(pub u32, pub u32, pub u32);
 
 fn put(words: &mut [u32], at: usize, word: u32) {

@@ -1,0 +1,18 @@
+-- The loop keeps the words below r; the word of row 0 is written before it. The measure is what is left of the rows.
+-- Assumes nothing.
+use mathlib.Core.Path.{◌≡◌, refl, ◌∙◌}
+use Prim.Native.Nat.{◌-◌, ◌≤◌, ◌<◌}
+use native.Mathlib.Omega.{arith}
+use borrow.Author.Rules.{rules}
+use lib.ListN.{length, length-set}
+use Rattle.rules.specs.Rows.{row_count}
+use Rattle.afters.specs.Afters.{AftersBelow}
+use Rattle.afters.proofs.Places.{afters-start, afters-more}
+use Rattle.afters.proofs.afters_of.Given as goal
+
+abbrev pub invariant-loop-r : goal.invariant-loop-r
+invariant-loop-r l =
+    (0 < l.r) × (row_count l.rows ≤ length l.afters) × (length l.afters ≡ length l.initial.afters) × AftersBelow l.rows l.afters l.r
+
+abbrev pub decreases-loop-r : goal.decreases-loop-r
+decreases-loop-r l = l.count - l.r

@@ -1,0 +1,20 @@
+-- The loop's invariant: the first k words of `out` are the first k words of the file from `from` on. The measure is what is left of `out`.
+-- Assumes nothing.
+use mathlib.Core.Path.{◌≡◌, refl, sym, ◌∙◌, ap}
+use mathlib.Core.List.{List, [], ◌∷◌, ◌++◌}
+use Prim.Native.Nat.{ℕ, ◌+◌, ◌*◌, ◌-◌, ◌≤◌, ◌<◌}
+use native.Mathlib.Numerals.{add-one}
+use native.Mathlib.Omega.{arith}
+use lib.ListN.{length, take, set, length-set}
+use lib.Seq.{take-suc-set, take-length}
+use borrow.Author.Rules.{rules}
+use Rattle.rules.specs.Labels.{each}
+use Rattle.rules.proofs.Each.{each-zero, each-suc}
+use Rattle.bodyfile.specs.File.{word, words}
+use Rattle.bodyfile.proofs.words.Given as goal
+
+abbrev pub invariant-loop-k : goal.invariant-loop-k
+invariant-loop-k l = (l.k ≤ length l.out) × ((length l.out ≡ length l.initial.out) × (take l.k l.out ≡ words l.file l.from l.k))
+
+abbrev pub decreases-loop-k : goal.decreases-loop-k
+decreases-loop-k l = length l.out - l.k

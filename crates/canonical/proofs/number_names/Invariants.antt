@@ -1,0 +1,16 @@
+-- `number_names` meets its contract. The loop's invariant is `Numbering`: the tables stand as they do once the first `n` names are numbered.
+-- The measure is what is left of the names.
+-- Assumes nothing.
+use Prim.Native.Nat.{suc, ◌-◌}
+use native.Mathlib.Omega.{arith}
+use borrow.Author.Rules.{rules}
+use Rattle.canonical.proofs.Firsts.{first-within}
+use Rattle.canonical.proofs.Numbering.{Numbering, numbering_start, numbering-next, numbering-end, number_small, key-hash, key-slot}
+use Rattle.canonical.proofs.number_names.Given as goal
+
+abbrev pub invariant-loop-n : goal.invariant-loop-n
+invariant-loop-n l =
+    Numbering l.pairs l.bytes l.initial.heads l.initial.next_in_slot l.initial.keys l.initial.numbers l.heads l.next_in_slot l.keys l.numbers l.n
+
+abbrev pub decreases-loop-n : goal.decreases-loop-n
+decreases-loop-n l = l.count - l.n

@@ -1,0 +1,98 @@
+-- By its detail the Branch is of one of four classes, and Places.antt says which place that one goes to.
+-- Assumes nothing.
+use mathlib.Core.Path.{◌≡◌, refl, ap}
+use Prim.Native.Nat.{ℕ, ◌+◌, ◌-◌, ◌≤◌}
+use native.Mathlib.Omega.{arith}
+use lib.ListN.{get_or}
+use Rattle.rules.specs.Rows.{row_count, end}
+use Rattle.destinations.proofs.BranchClass.{is-break, is-continue, is-goto, is-fallthrough}
+use Rattle.destinations.proofs.Places.{BreakPlace, ContinuePlace, GotoPlace, FallthroughPlace, break-place, continue-place, goto-place}
+use Rattle.destinations.proofs.Places.{fallthrough-place, formed, allowed, end_of}
+use borrow.Author.Rules.{rules}
+use Rattle.destinations.proofs.destination.Goals as goal
+use Rattle.destinations.proofs.destination.Tie as tie
+
+-- ---- what the tables say at each detail
+few : (c : tie.After-detail) → row_count c.args.rows.now ≤ 2000
+few c = (formed c.requires.0.faultless).most_rows
+
+on-break : (c : tie.In-0) → BreakPlace c.requires.0 c.args.r c.requires.1.0
+on-break c =
+    let row = c.requires.1.0 in
+    break-place c.requires.0 _ row (is-break _ _ _ (allowed c.requires.0 _ row) c.requires.1.1 c.detail.ensures c.in-0.keys1)
+
+on-continue : (c : tie.In-1) → ContinuePlace c.requires.0 c.args.r c.requires.1.0
+on-continue c =
+    let row = c.requires.1.0 in
+    continue-place c.requires.0 _ row (is-continue _ _ _ (allowed c.requires.0 _ row) c.requires.1.1 c.detail.ensures c.in-1.keys2)
+
+on_goto : (c : tie.In-2) → GotoPlace c.requires.0 c.args.r c.requires.1.0
+on_goto c =
+    let row = c.requires.1.0 in
+    goto-place c.requires.0 _ row (is-goto _ _ _ (allowed c.requires.0 _ row) c.requires.1.1 c.detail.ensures c.in-2.keys3)
+
+on-fallthrough : (c : tie.In_default) → FallthroughPlace c.requires.0 c.args.r c.requires.1.0
+on-fallthrough c =
+    let row = c.requires.1.0 in
+    let n = c.in_default.rest in
+    fallthrough-place c.requires.0 _ row
+    (is-fallthrough _ _ _ (allowed c.requires.0 _ row) c.requires.1.1 c.detail.ensures n.0.0.1 n.0.1 n.1)
+
+-- where the Case of a fallthrough ends
+next : (c : tie.After-size) →
+    let a = c.args in c.wide-case.result - 1 + c.size.result ≡ end a.rows.now (get_or a.cases.now a.r 0 - 1)
+next c = end_of c.args.rows.now _ _ _ (ap (λ (n : ℕ). n - 1) c.wide-case.ensures) c.size.ensures
+
+pub statement-left-requires : goal.statement-left-requires
+statement-left-requires c = (on-break c.before.before).0
+
+pub offset_bounds-afters-left : goal.offset_bounds-afters-left
+offset_bounds-afters-left c = omega (arith, c.statement-left.ensures, (on-break c.before.before.before).1, few c.before.before.before.before)
+
+pub bounds-afters-left : goal.bounds-afters-left
+bounds-afters-left c =
+    omega (arith, c.statement-left.ensures, (on-break c.before.before.before.before).1, c.requires.0.afters_room)
+
+pub statement-requires : goal.statement-requires
+statement-requires c = (on-continue c.before.before).0
+
+pub overflow_add-result : goal.overflow_add-result
+overflow_add-result c = omega (arith, c.statement.ensures, (on-continue c.before.before.before).1, few c.before.before.before.before)
+
+pub overflow_cast-result : goal.overflow_cast-result
+overflow_cast-result c = omega (arith, (on_goto c.before).0, few c.before.before)
+
+pub overflow_add-result-in-2 : goal.overflow_add-result-in-2
+overflow_add-result-in-2 c = omega (arith, (on_goto c.before).0, few c.before.before)
+
+pub overflow_sub-case : goal.overflow_sub-case
+overflow_sub-case c = let f = on-fallthrough c.before.before.before in omega (arith, c.wide-case.ensures, f.0)
+
+pub size-requires : goal.size-requires
+size-requires c = let f = on-fallthrough c.before.before.before in omega (arith, c.wide-case.ensures, f.0, f.1)
+
+pub overflow_add-next : goal.overflow_add-next
+overflow_add-next c = omega (arith, next c.before, (on-fallthrough c.before.before.before.before).2, few c.before.before.before.before.before)
+
+pub overflow_add-result-in_default : goal.overflow_add-result-in_default
+overflow_add-result-in_default c = omega (arith, next c.before, (on-fallthrough c.before.before.before.before).2, few c.before.before.before.before.before)
+
+pub returns-in-0 : goal.returns-in-0
+returns-in-0 c =
+    (
+      rw (c.wide.ensures, c.statement-left.ensures) (on-break c.before.before.before.before.before).2,
+      omega (arith, c.wide.ensures, c.shared_slice_known-in-0-2-1.given c.statement-left.result),
+    )
+
+pub returns-in-1 : goal.returns-in-1
+returns-in-1 c =
+    let e = c.statement.ensures in
+    ((on-continue c.before.before.before).2 _ (ap (λ (n : ℕ). n + 2) e), omega (arith, e, (on-continue c.before.before.before).1, few c.before.before.before.before))
+
+pub returns-in-2 : goal.returns-in-2
+returns-in-2 c = ((on_goto c.before).1 _ refl, omega (arith, (on_goto c.before).0, few c.before.before))
+
+pub returns-in_default : goal.returns-in_default
+returns-in_default c =
+    let f = on-fallthrough c.before.before.before.before in
+    (f.3 _ (ap (λ (n : ℕ). n + 2) (next c.before)), omega (arith, next c.before, f.2, few c.before.before.before.before.before))

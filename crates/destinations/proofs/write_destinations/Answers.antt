@@ -1,0 +1,70 @@
+use mathlib.Core.Path.{◌≡◌, refl, sym, ◌∙◌, ap}
+use mathlib.Core.Bool.{false}
+use mathlib.Core.Logic.{⊎_elim}
+use Prim.Native.Nat.{◌-◌, ◌≤◌, ◌<◌}
+use native.Mathlib.Omega.{arith}
+use lib.ListN.{length, length-set}
+use borrow.Author.Tests.{ne_eqb}
+use Rattle.rules.specs.Class.{is_branch, class}
+use Rattle.rules.proofs.Lists.{branch-kind}
+use Rattle.destinations.specs.Destinations.{DestinationsBelow}
+use Rattle.destinations.proofs.Places.{formed}
+use Rattle.destinations.proofs.Written.{branch-more, other-more}
+use Rattle.destinations.proofs.write_destinations.Goals as goal
+use Rattle.destinations.proofs.write_destinations.Tie as tie
+
+pub loop-r-init : goal.loop-r-init
+loop-r-init c = (omega arith, refl, λ k h. absurd (omega arith))
+
+pub kind-requires : goal.kind-requires
+kind-requires c = omega arith
+
+pub destination-place-requires : goal.destination-place-requires
+destination-place-requires c =
+    (c.requires.0, (c.loop-r-test.true, sym c.kind.ensures ∙ c.if-kind-eq-BRANCH.true))
+
+pub overflow_cast-destinations : goal.overflow_cast-destinations
+overflow_cast-destinations c = omega (arith, c.destination-place.ensures.1)
+
+pub offset_bounds-destinations-r : goal.offset_bounds-destinations-r
+offset_bounds-destinations-r c = omega arith
+
+pub bounds-destinations-r : goal.bounds-destinations-r
+bounds-destinations-r c = omega (arith, c.requires.1, c.loop-r.invariant.1)
+
+pub overflow_add-r : goal.overflow_add-r
+overflow_add-r c = omega arith
+
+pub loop-r-smaller : goal.loop-r-smaller
+loop-r-smaller c = omega arith
+
+-- a row of another kind is no Branch
+no-branch : (k : tie.After-kind goal.the-invariant-loop-r goal.the-decreases-loop-r) → (k.kind.result ≡ 11 → ⊥)
+    → is_branch (class k.args.rows.now k.loop-r.r) ≡ false
+no-branch k n =
+    let a = (formed k.requires.0.faultless).details k.loop-r.r k.loop-r-test.true in
+    sym (branch-kind k.args.rows.now _ a) ∙ ne_eqb _ 11 (λ e. n (k.kind.ensures ∙ e))
+
+pub loop-r-preserved : goal.loop-r-preserved
+loop-r-preserved c =
+    let row = c.loop-r-test.true in
+    let same = c.loop-r.invariant.1 in
+    let room : c.loop-r.r < length c.loop-r.destinations = omega (arith, c.requires.1) in
+    ⊎_elim
+    (λ a. (
+      omega arith,
+      ap length a.2 ∙ simp length-set same,
+      branch-more _ _ _ c.loop-r.destinations _ _ c.loop-r.invariant.2 a.1.result room a.2 a.1.ensures.0,
+    ))
+    (λ a. (
+      omega arith,
+      ap length a.1 ∙ same,
+      other-more _ _ _ c.loop-r.destinations _ _ c.loop-r.invariant.2 a.1 (no-branch c.before.before a.0.left),
+    ))
+    c.if-kind-eq-BRANCH.branch
+
+pub shape_of-destinations : goal.shape_of-destinations
+shape_of-destinations c = omega (arith, c.loop-r.invariant.1)
+
+pub returns : goal.returns
+returns c = λ k h. c.loop-r.invariant.2 k (omega (arith, c.loop-r-test.false))

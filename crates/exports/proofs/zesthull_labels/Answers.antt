@@ -1,0 +1,20 @@
+-- The label call's answer, told as two numbers; the sheet and the bindings are as that call leaves them.
+-- Assumes nothing.
+use mathlib.Core.Path.{refl, sym, ◌∙◌, ap}
+use Rattle.label.specs.Given.{given}
+use Rattle.exports.specs.Told.{told_count}
+use Rattle.exports.proofs.Telling.{tells}
+use borrow.Author.Rules.{rules}
+use Rattle.exports.proofs.zesthull_labels.Goals as goal
+
+pub returns-in-Refused : goal.returns-in-Refused
+returns-in-Refused c =
+    let e = c.labels.ensures in
+    let t = tells told_count c.number_of.ensures c.index_of.ensures (sym (ap given c.in-Refused.is) ∙ e.0) in
+    (t.0, (t.1, (e.1.0, e.1.1)))
+
+pub returns-in-Faults : goal.returns-in-Faults
+returns-in-Faults c =
+    let e = c.labels.ensures in
+    let t = tells told_count refl refl (sym (ap given c.in-Faults.is) ∙ e.0) in
+    (t.0, (t.1, (e.1.0, e.1.1)))

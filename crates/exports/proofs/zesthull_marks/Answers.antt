@@ -1,0 +1,23 @@
+-- The marks, told as four numbers: the words of placing and verdict are written only where nothing is refused.
+-- Assumes nothing.
+use mathlib.Core.Path.{refl, sym, ◌∙◌, ap}
+use Rattle.marking.specs.Marks.{given}
+use Rattle.exports.proofs.Telling.{marks-small, tells-marks}
+use borrow.Author.Rules.{rules}
+use Rattle.exports.proofs.zesthull_marks.Goals as goal
+
+pub placed_word-requires : goal.placed_word-requires
+placed_word-requires c =
+    marks-small _ _ _ _ _ _ (sym (ap given c.in-Marked.is) ∙ c.mark.ensures.0)
+
+pub returns-in-Refused : goal.returns-in-Refused
+returns-in-Refused c =
+    let e = c.mark.ensures in
+    let t = tells-marks _ _ c.number_of.ensures c.index_of.ensures refl refl (sym (ap given c.in-Refused.is) ∙ e.0) in
+    (t.0, (t.1, (t.2, (t.3, (e.1.0, e.1.1)))))
+
+pub returns-in-Marked : goal.returns-in-Marked
+returns-in-Marked c =
+    let e = c.mark.ensures in
+    let t = tells-marks _ _ refl refl c.placed_word.ensures c.verdict_word.ensures (sym (ap given c.in-Marked.is) ∙ e.0) in
+    (t.0, (t.1, (t.2, (t.3, (e.1.0, e.1.1)))))

@@ -1,0 +1,33 @@
+-- Where there is no name the part is empty; else the pair says where it starts and how long it is.
+-- Assumes nothing.
+use mathlib.Core.Path.{◌≡◌, sym, ◌∙◌, ap}
+use Prim.Native.Nat.{ℕ}
+use borrow.Author.Tests.{not-true, not-false}
+use Rattle.exports.proofs.Telling.{told-refused, told-zero, told-past, told-pair}
+use borrow.Author.Rules.{rules}
+use Rattle.exports.proofs.zesthull_name.Goals as goal
+
+abbrev first : ℕ × ℕ → ℕ
+first x = x.0
+
+abbrev second : ℕ × ℕ → ℕ
+second x = x.1
+
+-- 0 and 0
+told : {x : ℕ × ℕ} → x ≡ (0, 0) → (0 ≡ second x) × (0 ≡ first x)
+told e = (ap second (sym e), ap first (sym e))
+
+pub returns-then-not-names_ok : goal.returns-then-not-names_ok
+returns-then-not-names_ok c = told (told-refused _ _ _ (sym c.names_ok.ensures ∙ not-true _ c.if-not-names_ok.true))
+
+pub returns-then-number-eq0 : goal.returns-then-number-eq0
+returns-then-number-eq0 c = told (told-zero _ _ _ c.if-number-eq0.true)
+
+pub returns-then-pairs-number : goal.returns-then-pairs-number
+returns-then-pairs-number c = told (told-past _ _ _ c.if-pairs-number.true)
+
+pub returns : goal.returns
+returns c =
+    let t = told-pair _ _ _ (sym c.names_ok.ensures ∙ not-false _ c.if-not-names_ok.false) c.if-number-eq0.false
+    c.if-pairs-number.false in
+    (c.wide-2.ensures ∙ ap second (sym t), c.wide.ensures ∙ ap first (sym t))

@@ -1,0 +1,19 @@
+-- The verdict call's answer, told as two numbers.
+-- Assumes nothing.
+use mathlib.Core.Path.{refl, sym, ◌∙◌, ap}
+use Rattle.returns.specs.Given.{given}
+use Rattle.exports.specs.Told.{told_verdict}
+use Rattle.exports.proofs.Telling.{tells}
+use borrow.Author.Rules.{rules}
+use Rattle.exports.proofs.zesthull_verdict.Goals as goal
+
+pub returns-in-Refused : goal.returns-in-Refused
+returns-in-Refused c =
+    tells told_verdict c.number_of.ensures c.index_of.ensures
+    (sym (ap given c.in-Refused.is) ∙ c.ask_verdict.ensures)
+
+pub returns-in-Yes : goal.returns-in-Yes
+returns-in-Yes c = tells told_verdict refl refl (sym (ap given c.in-Yes.is) ∙ c.ask_verdict.ensures)
+
+pub returns-in-No : goal.returns-in-No
+returns-in-No c = tells told_verdict refl refl (sym (ap given c.in-No.is) ∙ c.ask_verdict.ensures)

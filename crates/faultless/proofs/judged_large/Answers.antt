@@ -1,0 +1,10 @@
+-- A well-formed body has 2,000 rows at most.
+-- Assumes nothing.
+use native.Mathlib.Omega.{arith}
+use Rattle.rules.proofs.Facts.{body}
+use borrow.Author.Rules.{rules}
+use Rattle.faultless.proofs.judged_large.Goals as goal
+
+pub judged-requires : goal.judged-requires
+judged-requires c =
+    (c.requires.0, (omega (arith, (body _ _ _ c.requires.0).most_rows), c.requires.1))

@@ -1,0 +1,32 @@
+use mathlib.Core.Path.{◌≡◌, sym, ◌∙◌}
+use mathlib.Core.Bool.{false}
+use Prim.Native.Nat.{◌<◌}
+use native.Mathlib.Omega.{arith}
+use lib.ListN.{length as length_of}
+use borrow.Author.Rules.{rules}
+use borrow.Author.Tests.{not-true}
+use Rattle.input.specs.Reads.{uncounted}
+use Rattle.input.proofs.Lengths.{not_last, left_to_count, less-left}
+use Rattle.filter.proofs.whole_length.Goals as goal
+
+pub loop-input-init : goal.loop-input-init
+loop-input-init c = (c.large_buffer-piece.ensures, c.requires)
+
+pub read_on-input-requires : goal.read_on-input-requires
+read_on-input-requires c =
+    (
+      c.loop-input.invariant.1 (not-true _ c.loop-input-test.true),
+      omega (arith, c.loop-input.invariant.0, c.read_full-got.ensures.0, c.read_full-got.auto.1.0),
+    )
+
+pub loop-input-smaller : goal.loop-input-smaller
+loop-input-smaller c =
+    let going = not-true _ c.loop-input-test.true in
+    less-left _ _ _ 65536 _ _ going (c.loop-input.invariant.1 going) (omega arith) c.read_on-input.ensures.0 c.read_on-input.ensures.1
+
+pub loop-input-preserved : goal.loop-input-preserved
+loop-input-preserved c =
+    (
+      omega (arith, c.loop-input.invariant.0, c.read_full-got.auto.1.0),
+      λ e. rw c.read_on-input.ensures.0 (not_last _ _ (sym c.read_on-input.ensures.1 ∙ e)),
+    )

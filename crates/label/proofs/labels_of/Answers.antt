@@ -1,0 +1,27 @@
+-- The two lengths are tested, and `faults` writes both.
+-- Assumes nothing.
+use mathlib.Core.Path.{sym}
+use borrow.Author.Rules.{rules}
+use Rattle.rules.proofs.Facts.{body}
+use Rattle.label.proofs.CallRows.{call-short-sheet, call-short-bindings, call-answered}
+use Rattle.label.proofs.labels_of.Goals as goal
+
+pub returns-then-sheet-count : goal.returns-then-sheet-count
+returns-then-sheet-count c = call-short-sheet _ _ _ _ _ (sym c.requires) c.if-sheet-count.true
+
+pub returns-then-bindings-count : goal.returns-then-bindings-count
+returns-then-bindings-count c = call-short-bindings _ _ _ _ _ (sym c.requires) c.if-sheet-count.false c.if-bindings-count.true
+
+pub faults-requires : goal.faults-requires
+faults-requires c = (body _ _ _ c.requires, (c.if-sheet-count.false, c.if-bindings-count.false))
+
+pub shape_of-sheet : goal.shape_of-sheet
+shape_of-sheet c = c.sheet-1.given
+
+pub shape_of-bindings : goal.shape_of-bindings
+shape_of-bindings c = c.bindings-1.given
+
+pub returns : goal.returns
+returns c =
+    call-answered _ _ _ _ _ (sym c.requires) _ _ _ c.if-sheet-count.false c.if-bindings-count.false
+    c.faults.ensures

@@ -1,0 +1,102 @@
+-- Each arm is one law of RowSteps.antt: what its call asks, and what the row leaves. A label and a branch hold no items, so the list in hand stays.
+-- Assumes nothing.
+use mathlib.Core.Path.{refl}
+use mathlib.Core.Logic.{inl, inr}
+use Rattle.label_walk.proofs.RowSteps.{labeled-asks, labeled-gives, branch-asks, branch-gives, passes, plain-asks, plain-gives}
+use Rattle.label_walk.proofs.stmt_branches.Goals as goal
+use Rattle.label_walk.proofs.stmt_branches.Tie as tie
+
+abbrev at-kind-1 : tie.After-plain-branches-arg3 → tie.After-kind
+at-kind-1 c = c.before.before.before.before
+
+abbrev at-start-2 : tie.After-plain-branches-arg3 → tie.Start
+at-start-2 c = at-start-1 (at-kind-1 c).before
+
+abbrev at-match-2 : tie.After-labeled-branches-arg6 → tie.In-3
+at-match-2 c = c.before.before.before.before.before.before
+
+abbrev at-start-4 : tie.After-labeled-branches-arg6 → tie.Start
+at-start-4 c = at-start-1 (at-match-2 c).before.before
+
+pub kind-requires : goal.kind-requires
+kind-requires c = c.requires.1.1.1.0
+
+pub labeled_branches-more-requires : goal.labeled_branches-more-requires
+labeled_branches-more-requires c =
+    let s = at-start-4 c.before in
+    labeled-asks s.pre.0 _ s.pre.1.1.1.0 s.pre.1.0 s.pre.1.1.0 _ (at-match-2 c.before).before.kind.ensures (at-match-2 c.before).match.keys1
+
+pub shape_of-sheet-in-3 : goal.shape_of-sheet-in-3
+shape_of-sheet-in-3 c = c.sheet-1.given
+
+pub shape_of-bindings-in-3 : goal.shape_of-bindings-in-3
+shape_of-bindings-in-3 c = c.bindings-1.given
+
+pub shape_of-heads-in-3 : goal.shape_of-heads-in-3
+shape_of-heads-in-3 c = c.heads-1.given
+
+pub shape_of-goto_or_label-in-3 : goal.shape_of-goto_or_label-in-3
+shape_of-goto_or_label-in-3 c = refl
+
+pub shape_of-latest_decls-in-3 : goal.shape_of-latest_decls-in-3
+shape_of-latest_decls-in-3 c = refl
+
+pub shape_of-latest_labels-in-3 : goal.shape_of-latest_labels-in-3
+shape_of-latest_labels-in-3 c = c.latest_labels-1.given
+
+pub returns-in-3 : goal.returns-in-3
+returns-in-3 c =
+    let k = c.in-3.is in
+    let e = c.kind.ensures in
+    let g = labeled-gives c.requires.0 _ c.requires.1.1.1.0 c.requires.1.0 c.requires.1.1.0 _ e k
+    c.labeled_branches-more.ensures in
+    (g.0, (g.1, passes c.requires.0 _ c.requires.1.1.1.0 c.requires.1.0 c.requires.1.1.0 _ e (inl k) c.requires.1.1.1.1))
+
+pub jump_branches-more-requires : goal.jump_branches-more-requires
+jump_branches-more-requires c =
+    branch-asks c.requires.0 _ c.requires.1.1.1.0 c.requires.1.0 c.requires.1.1.0 _ c.kind.ensures c.in-11.is
+
+pub shape_of-sheet-in-11 : goal.shape_of-sheet-in-11
+shape_of-sheet-in-11 c = c.sheet-in-11-1.given
+
+pub shape_of-bindings-in-11 : goal.shape_of-bindings-in-11
+shape_of-bindings-in-11 c = c.bindings-in-11-1.given
+
+pub shape_of-heads-in-11 : goal.shape_of-heads-in-11
+shape_of-heads-in-11 c = c.heads-in-11-1.given
+
+pub shape_of-goto_or_label-in-11 : goal.shape_of-goto_or_label-in-11
+shape_of-goto_or_label-in-11 c = c.goto_or_label-1.given
+
+pub returns-in-11 : goal.returns-in-11
+returns-in-11 c =
+    let k = c.in-11.is in
+    let e = c.kind.ensures in
+    let g = branch-gives c.requires.0 _ c.requires.1.1.1.0 c.requires.1.0 c.requires.1.1.0 _ e k
+    c.jump_branches-more.ensures in
+    (g.0, (g.1, passes c.requires.0 _ c.requires.1.1.1.0 c.requires.1.0 c.requires.1.1.0 _ e (inr k) c.requires.1.1.1.1))
+
+pub plain_branches-requires : goal.plain_branches-requires
+plain_branches-requires c =
+    let s = at-start-2 c.before in
+    plain-asks s.pre.0 _ s.pre.1.1.1.0 s.pre.1.0 s.pre.1.1.0 _ (at-kind-1 c.before).kind.ensures
+
+pub list_after-after-requires : goal.list_after-after-requires
+list_after-after-requires c =
+    let b = c.requires.0.body in
+    ((b.sized, b.details, c.requires.1.1.1.0, b.most_rows), c.requires.1.1.1.1)
+
+pub shape_of-goto_or_label-in_default : goal.shape_of-goto_or_label-in_default
+shape_of-goto_or_label-in_default c = c.goto_or_label-in_default-1.given
+
+pub shape_of-latest_decls-in_default : goal.shape_of-latest_decls-in_default
+shape_of-latest_decls-in_default c = c.latest_decls-1.given
+
+pub shape_of-latest_labels-in_default : goal.shape_of-latest_labels-in_default
+shape_of-latest_labels-in_default c = refl
+
+pub returns-in_default : goal.returns-in_default
+returns-in_default c =
+    let g = plain-gives c.requires.0 _ c.requires.1.1.1.0 c.requires.1.0 c.requires.1.1.0 _ c.kind.ensures
+    c.in_default.rest c.plain_branches.ensures in
+    (g.0, (g.1, c.list_after-after.ensures))

@@ -1,0 +1,28 @@
+-- What `refusal_of` found is the refusal, with both as they were lent; a well-formed body is marked.
+-- Assumes nothing.
+use mathlib.Core.Path.{sym, ◌∙◌, ap}
+use Rattle.body.specs.Given.{given}
+use Rattle.marking.proofs.Together.{refusal-marked}
+use borrow.Author.Rules.{rules}
+use Rattle.marking.proofs.mark.Goals as goal
+use Rattle.marking.proofs.mark.Tie as tie
+
+pub marks_of-requires : goal.marks_of-requires
+marks_of-requires c =
+    sym c.refusal_of.ensures ∙ ap given c.in-WellFormed.is
+
+pub returns-in-Refused : goal.returns-in-Refused
+returns-in-Refused c = refusal-marked _ _ _ _ _ _ (sym (ap given c.in-Refused.is) ∙ c.refusal_of.ensures)
+
+pub mark_spec : {M : Type 1} → statement M
+mark_spec =
+    tie.close
+    (tie.spec
+    refusal-of-requires
+    enum-known-r
+    enum_told
+    marks-of-requires
+    returns
+    same_length
+    same-length-2
+    returns-2)

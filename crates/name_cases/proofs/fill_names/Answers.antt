@@ -1,0 +1,5 @@
+use Rattle.std.proofs.Common.{◌≡◌, ◌-◌, ◌/◌, length, arith, length-set, rules}
+use Rattle.name_cases.proofs.fill_names.Goals as goal
+
+pub bounds-bytes-i-in-loop-i : goal.bounds-bytes-i-in-loop-i
+bounds-bytes-i-in-loop-i c = simp length-set (omega arith)

@@ -1,0 +1,5 @@
+use Rattle.std.proofs.Common.{◌≡◌, ◌-◌, ◌/◌, length, arith, length-set, rules}
+use Rattle.name_cases.proofs.fill_pairs.Goals as goal
+
+pub bounds-pairs-i-in-loop-i : goal.bounds-pairs-i-in-loop-i
+bounds-pairs-i-in-loop-i c = simp length-set (omega arith)

@@ -1,0 +1,10 @@
+-- The measure is what is left of the count.
+-- Assumes nothing.
+use Rattle.std.proofs.Common.{◌-◌, length, rules}
+use Rattle.name_cases.proofs.missing.Given as goal
+
+abbrev pub invariant-loop-i : goal.invariant-loop-i
+invariant-loop-i l = Unit {0}
+
+abbrev pub decreases-loop-i : goal.decreases-loop-i
+decreases-loop-i l = length l.names - l.i

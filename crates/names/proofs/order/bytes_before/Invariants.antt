@@ -1,0 +1,17 @@
+-- `order::bytes_before` meets its contract. The loop's invariant: both lists are equal up to i, so the lists from i on
+-- are in the order of the whole lists. The measure is what is left of the shorter length.
+-- Assumes nothing.
+use mathlib.Core.Path.{◌≡◌, refl, sym, ◌∙◌}
+use Prim.Native.Nat.{◌≤◌, ◌-◌}
+use native.Mathlib.Omega.{arith}
+use lib.ListN.{length, drop}
+use borrow.Author.Rules.{rules}
+use Rattle.rules.specs.Names.{bytes_before}
+use Rattle.names.proofs.Bytes.{before-lengths, before-next, first-other}
+use Rattle.names.proofs.order.bytes_before.Given as goal
+
+abbrev pub invariant-loop-i : goal.invariant-loop-i
+invariant-loop-i l = (l.i ≤ l.both) × (l.both ≤ length l.a) × (l.both ≤ length l.b) × (bytes_before l.a l.b ≡ bytes_before (drop l.i l.a) (drop l.i l.b))
+
+abbrev pub decreases-loop-i : goal.decreases-loop-i
+decreases-loop-i l = l.both - l.i

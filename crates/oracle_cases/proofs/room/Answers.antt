@@ -1,0 +1,12 @@
+-- The smaller of the two counts is no more than either.
+-- Assumes nothing.
+use mathlib.Core.Path.{sym}
+use native.Mathlib.Omega.{arith}
+use lib.Seq.{length-take-le}
+use Rattle.oracle_cases.proofs.room.Goals as goal
+
+pub returns-then-count-part : goal.returns-then-count-part
+returns-then-count-part c = ((omega (arith, c.if-count-part.true), sym (length-take-le _ _ (omega (arith, c.if-count-part.true)))), omega arith)
+
+pub returns-else-count-part : goal.returns-else-count-part
+returns-else-count-part c = ((omega arith, sym (length-take-le _ _ (omega arith))), omega (arith, c.if-count-part.false))

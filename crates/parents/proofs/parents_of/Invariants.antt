@@ -1,0 +1,17 @@
+-- The loop keeps `ParentsTo`: row 0 and the children of the rows before r have their words. The measure is what is left of the rows.
+-- Assumes nothing.
+use mathlib.Core.Path.{◌≡◌, refl}
+use Prim.Native.Nat.{◌-◌, ◌≤◌}
+use native.Mathlib.Omega.{arith}
+use borrow.Author.Rules.{rules}
+use lib.ListN.{length, length-set}
+use Rattle.rules.specs.Rows.{row_count}
+use Rattle.parents.specs.Parents.{ParentsTo}
+use Rattle.parents.proofs.Written.{parents-start, parents-end}
+use Rattle.parents.proofs.parents_of.Given as goal
+
+abbrev pub invariant-loop-r : goal.invariant-loop-r
+invariant-loop-r l = (row_count l.rows ≤ length l.parents) × (length l.parents ≡ length l.initial.parents) × ParentsTo l.rows l.parents l.r
+
+abbrev pub decreases-loop-r : goal.decreases-loop-r
+decreases-loop-r l = l.count - l.r

@@ -1,0 +1,27 @@
+-- The tests of the code are the parts of `badly_placed`: only a Branch can be badly placed, and only one with no name.
+-- Assumes nothing.
+use mathlib.Core.Path.{sym, ◌∙◌, ap}
+use mathlib.Core.Bool.{not}
+use Rattle.placing.proofs.Branches.{other-not-bad, named-not-bad, not-well-bad}
+use borrow.Author.Rules.{rules}
+use Rattle.placing.proofs.badly_placed.Goals as goal
+
+pub returns-then-kind-ne-BRANCH : goal.returns-then-kind-ne-BRANCH
+returns-then-kind-ne-BRANCH c =
+    other-not-bad _ _ _ c.kind.ensures (c.requires.0.0.2.details c.args.row.0 c.requires.1.0) c.if-kind-ne-BRANCH.true
+
+pub returns-then-name-ne0 : goal.returns-then-name-ne0
+returns-then-name-ne0 c = named-not-bad _ _ _ c.name-name.ensures c.if-name-ne0.true
+
+pub well_placed-requires : goal.well_placed-requires
+well_placed-requires c =
+    (
+      c.requires.0,
+      (
+        (c.requires.1.0, sym c.kind.ensures ∙ c.if-kind-ne-BRANCH.false, sym c.name-name.ensures ∙ c.if-name-ne0.false),
+        c.requires.1.1,
+      ),
+    )
+
+pub returns : goal.returns
+returns c = ap not c.well_placed.ensures ∙ not-well-bad _ _ _ c.name-name.ensures c.if-name-ne0.false

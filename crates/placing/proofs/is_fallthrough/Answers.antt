@@ -1,0 +1,15 @@
+-- Each test of the code is one part of `Falls`.
+-- Assumes nothing.
+use mathlib.Core.Path.{◌∙◌}
+use borrow.Author.Rules.{rules}
+use borrow.Author.Tests.{eqb-false}
+use Rattle.placing.proofs.is_fallthrough.Goals as goal
+
+pub returns-then-kind-ne-BRANCH : goal.returns-then-kind-ne-BRANCH
+returns-then-kind-ne-BRANCH c = c.if-kind-ne-BRANCH.true (c.kind.ensures ∙ f.0)
+
+pub returns-then-detail-ne-FALLTHROUGH : goal.returns-then-detail-ne-FALLTHROUGH
+returns-then-detail-ne-FALLTHROUGH c = c.if-detail-ne-FALLTHROUGH.true (c.detail.ensures ∙ f.1)
+
+pub returns : goal.returns
+returns c = eqb-false _ 0 e (c.name_word.ensures ∙ f.2)

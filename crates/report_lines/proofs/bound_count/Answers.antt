@@ -1,0 +1,24 @@
+use mathlib.Core.Path.{◌≡◌, ◌∙◌, ap}
+use mathlib.Core.Logic.{⊎_elim}
+use Prim.Native.Nat.{◌-◌, ◌≤◌}
+use native.Mathlib.Omega.{arith}
+use lib.ListN.{length}
+use borrow.Author.Rules.{rules}
+use Rattle.report_lines.specs.Lines.{bound_below}
+use Rattle.report_lines.proofs.Parts.{bound-zero, bound-not, bound-one}
+use Rattle.report_lines.proofs.bound_count.Goals as goal
+
+pub loop-row-init : goal.loop-row-init
+loop-row-init c = (omega arith, (omega arith, bound-zero _))
+
+pub loop-row-preserved : goal.loop-row-preserved
+loop-row-preserved c =
+    let w = c.args.bindings.now in
+    ⊎_elim (λ t. (omega arith, (omega arith, omega (arith, bound-one w c.loop-row.row t.0.taken, c.loop-row.invariant.1.1))))
+    (λ t. (omega arith, (omega arith, omega (arith, bound-not w c.loop-row.row t.0.left, c.loop-row.invariant.1.1))))
+    c.if-bindings-row-ne0.branch
+
+pub returns : goal.returns
+returns c =
+    let e : c.loop-row.row ≡ length c.args.bindings.now = omega arith in
+    c.loop-row.invariant.1.1 ∙ ap (bound_below c.args.bindings.now) e

@@ -1,0 +1,13 @@
+-- Four words, one behind the other, are the sheet's line; each takes at most 11 bytes.
+-- Assumes nothing.
+use native.Mathlib.Omega.{arith}
+use Rattle.report_lines.proofs.Parts.{fault-put}
+use borrow.Author.Rules.{rules}
+use Rattle.report_lines.proofs.fault_line.Goals as goal
+
+pub returns : goal.returns
+returns c =
+    let second = c.word_and-position.ensures in
+    let third = c.word_and-name.ensures in
+    let fourth = c.word_and.ensures in
+    (fault-put _ _ c.word_and-code.ensures.0 second.0 third.0 fourth.0, omega (arith, c.word_and-code.ensures.1, second.1, third.1, fourth.1))

@@ -1,0 +1,13 @@
+-- The number's line stands behind the heading.
+-- Assumes nothing.
+use native.Mathlib.Omega.{arith}
+use Rattle.report_lines.proofs.Decimals.{any-ends}
+use Rattle.report_lines.proofs.Writing.{behind}
+use borrow.Author.Rules.{rules}
+use Rattle.report_lines.proofs.text.title.Goals as goal
+
+pub returns : goal.returns
+returns c =
+    let b = c.bytes-end.ensures in
+    let n = c.number_and.ensures in
+    (behind _ _ b n, omega (arith, b.ends, any-ends _ _ n))

@@ -1,0 +1,39 @@
+use mathlib.Core.Path.{◌≡◌}
+use mathlib.Core.List.{List}
+use Prim.Native.Nat.{ℕ, ◌-◌}
+use native.Mathlib.Omega.{arith}
+use native.Mathlib.Decide.{ℕ_discrete}
+use borrow.Author.Tests.{not-false}
+use Rattle.rules.specs.Names.{count_of_pairs}
+use Rattle.row_checks.specs.Plain.{PlainItems}
+use Rattle.row_checks.proofs.plain.end_of_items.Goals as goal
+
+pub loop-c-init : goal.loop-c-init
+loop-c-init c = record { low = omega arith; high = omega arith; plain = λ k l m. absurd (omega arith) }
+
+pub plain_item-requires : goal.plain_item-requires
+plain_item-requires c = omega arith
+
+pub returns-then-not-plain_item : goal.returns-then-not-plain_item
+returns-then-not-plain_item c = c.loop-c.invariant
+
+pub overflow_add-c : goal.overflow_add-c
+overflow_add-c c = omega arith
+
+pub loop-c-smaller : goal.loop-c-smaller
+loop-c-smaller c = omega arith
+
+pub loop-c-preserved : goal.loop-c-preserved
+loop-c-preserved c =
+    let i = c.loop-c.invariant p many in
+    record {
+      low = omega (arith, i.low);
+      high = omega arith;
+      plain = λ k l m. elim (ℕ_discrete k c.loop-c.c) [
+        | yes e ↦ rw e (c.plain_item.ensures (not-false _ c.if-not-plain_item.false) p many)
+        | no n ↦ i.plain k l (omega arith)
+      ];
+    }
+
+pub returns : goal.returns
+returns c = c.loop-c.invariant

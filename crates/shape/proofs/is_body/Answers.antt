@@ -1,0 +1,19 @@
+-- Row 0 is a Block exactly if its kind is 12; what is left is the comparison of its size with the number of rows.
+-- Assumes nothing.
+use mathlib.Core.Path.{sym, ◌∙◌, ap}
+use Prim.Native.Nat.{ℕ}
+use native.Mathlib.Omega.{arith}
+use lib.Dec.{eqb}
+use borrow.Author.Rules.{rules}
+use Rattle.rules.specs.Rows.{row_count}
+use Rattle.rules.proofs.Children.{other-root, block-root}
+use Rattle.shape.proofs.is_body.Goals as goal
+
+pub returns-then-kind-ne-BLOCK : goal.returns-then-kind-ne-BLOCK
+returns-then-kind-ne-BLOCK c =
+    sym (other-root c.args.rows.now (c.requires.1 0 (omega arith)) (λ k. c.if-kind-ne-BLOCK.true (c.kind.ensures ∙ k)))
+
+pub returns : goal.returns
+returns c =
+    ap (λ (n : ℕ). eqb n (row_count c.args.rows.now)) c.size.ensures
+    ∙ sym (block-root c.args.rows.now (c.requires.1 0 (omega arith)) (sym c.kind.ensures ∙ c.if-kind-ne-BLOCK.false))

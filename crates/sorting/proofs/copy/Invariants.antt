@@ -1,0 +1,16 @@
+-- `sorting::copy` meets its contract. The loop's invariant: the words up to `i` are those of `from`. The measure is what is left of the length.
+-- Assumes nothing.
+use mathlib.Core.Path.{◌≡◌, refl}
+use Prim.Native.Nat.{ℕ, ◌-◌, ◌<◌, ◌≤◌}
+use native.Mathlib.Omega.{arith}
+use lib.ListN.{length, get_or}
+use lib.Seq.{ext_get_or}
+use borrow.Author.Rules.{rules}
+use Rattle.sorting.proofs.Elements.{stored-all}
+use Rattle.sorting.proofs.copy.Given as goal
+
+abbrev pub invariant-loop-i : goal.invariant-loop-i
+invariant-loop-i l = (length l.to ≡ length l.from) × (l.i ≤ length l.from) × ((x : ℕ) → x < l.i → get_or l.to x 0 ≡ get_or l.from x 0)
+
+abbrev pub decreases-loop-i : goal.decreases-loop-i
+decreases-loop-i l = length l.from - l.i

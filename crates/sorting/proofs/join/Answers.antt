@@ -1,0 +1,7 @@
+-- `sorting::join` meets its contract. What `merge` writes is sorted and has the names' elements, and `copy` brings it back.
+-- Assumes nothing.
+use borrow.Author.Rules.{rules}
+use Rattle.sorting.proofs.join.Goals as goal
+
+pub returns : goal.returns
+returns c = rw c.copy.ensures c.merge.ensures
