@@ -28,14 +28,14 @@ row c = c.args.r
 abbrev parent : tie.After-wide-p → ℕ
 parent c = c.wide-p.result - 1
 
-body : (c : tie.After-wide-p) → let f = c.requires.0.0 in Body (words c) f.0 f.1
-body c = c.requires.0.0.2
+body : (c : tie.After-wide-p) → let f = c.requires.formed.0 in Body (words c) f.0 f.1
+body c = c.requires.formed.0.2
 
 up : (c : tie.After-wide-p) → (0 < c.wide-p.result) × (parent c < row c) × Child (words c) (parent c) (row c)
-up c = parent-word (body c) c.args.parents.now _ _ c.requires.0.1 c.requires.1.0 c.requires.1.1 c.wide-p.ensures
+up c = parent-word (body c) c.args.parents.now _ _ c.requires.formed.1 c.requires.r_nonzero.0 c.requires.r_nonzero.1 c.wide-p.ensures
 
 parent_row : (c : tie.After-wide-p) → parent c < row_count (words c)
-parent_row c = omega (arith, (up c).1, c.requires.1.1)
+parent_row c = omega (arith, (up c).1, c.requires.r_nonzero.1)
 
 -- ---- what the calls said of them
 loop-told : (c : tie.After-is_loop) → c.is_loop.result ≡ is_loop (class (words c.before.before) (parent c.before.before))
@@ -47,7 +47,7 @@ no_loop c = sym (loop-told c.before.before) ∙ c.if-is_loop.false
 
 row_ends : (c : tie.After-size) → (row c.before.before.before.before + c.size.result ≡ end (words c.before.before.before.before) (row c.before.before.before.before)) × (end (words c.before.before.before.before) (row c.before.before.before.before) ≤ 2000)
 row_ends c =
-    (ap (λ (n : ℕ). row c.before.before.before.before + n) c.size.ensures, omega (arith, (body c.before.before.before.before).sized.within (row c.before.before.before.before) c.requires.1.1, (body c.before.before.before.before).most_rows))
+    (ap (λ (n : ℕ). row c.before.before.before.before + n) c.size.ensures, omega (arith, (body c.before.before.before.before).sized.within (row c.before.before.before.before) c.requires.r_nonzero.1, (body c.before.before.before.before).most_rows))
 
 parent-ends : (c : tie.After-size-2) → parent c.before.before.before.before.before + c.size-2.result ≡ end (words c.before.before.before.before.before) (parent c.before.before.before.before.before)
 parent-ends c = ap (λ (n : ℕ). parent c.before.before.before.before.before + n) c.size-2.ensures
@@ -104,11 +104,11 @@ pub offset_bounds-afters-p : goal.offset_bounds-afters-p
 offset_bounds-afters-p c = omega (arith, parent_row c.before.before.before.before.before.before.before, (body c.before.before.before.before.before.before.before).most_rows)
 
 pub bounds-afters-p : goal.bounds-afters-p
-bounds-afters-p c = omega (arith, parent_row c.before.before.before.before.before.before.before.before, c.requires.1.3)
+bounds-afters-p c = omega (arith, parent_row c.before.before.before.before.before.before.before.before, c.requires.r_nonzero.3)
 
 pub returns : goal.returns
 returns c =
-    let there = ap place_of c.wide.ensures ∙ c.requires.0.2 _ (up c.before.before.before.before.before.before.before.before.before).1 in (
+    let there = ap place_of c.wide.ensures ∙ c.requires.formed.2 _ (up c.before.before.before.before.before.before.before.before.before).1 in (
       place_up (body c.before.before.before.before.before.before.before.before.before) _ _ (parent_row c.before.before.before.before.before.before.before.before.before) (up c.before.before.before.before.before.before.before.before.before).2 (no_loop c.before.before.before.before.before) (no-next c.before.before.before) c.wide.result there,
       omega (arith, c.wide.ensures, c.shared_slice_known-5-1.given (parent c.before.before.before.before.before.before.before.before.before)),
     )

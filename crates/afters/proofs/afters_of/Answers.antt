@@ -9,17 +9,16 @@ use Rattle.afters.proofs.Places.{afters-start, afters-more}
 use Rattle.afters.proofs.afters_of.Goals as goal
 
 pub bounds-afters-0 : goal.bounds-afters-0
-bounds-afters-0 c = omega (arith, c.requires.1.1, c.requires.0.0.2.some_rows)
+bounds-afters-0 c = omega (arith, c.requires.rows_in_bounds.1, c.requires.formed.0.2.some_rows)
 
 pub loop-r-init : goal.loop-r-init
 loop-r-init c =
-    let room = c.requires.1.1 in
-    (omega arith, simp length-set room, refl, afters-start _ c.args.afters.now (omega (arith, room, c.requires.0.0.2.some_rows)))
+    let room = c.requires.rows_in_bounds.1 in
+    (omega arith, simp length-set room, refl, afters-start _ c.args.afters.now (omega (arith, room, c.requires.formed.0.2.some_rows)))
 
 pub after_at-place-requires : goal.after_at-place-requires
 after_at-place-requires c =
-    let v = c.loop-r.invariant in
-    ((c.requires.0.0, c.requires.0.1, v.3), (v.0, c.loop-r-test.true, c.requires.1.0, v.1))
+    let v = c.loop-r.invariant in record { formed = (c.requires.formed.0, c.requires.formed.1, v.3); r_nonzero = (v.0, c.loop-r-test.true, c.requires.rows_in_bounds.0, v.1) }
 
 pub overflow_cast-afters : goal.overflow_cast-afters
 overflow_cast-afters c = omega (arith, c.after_at-place.ensures.1)
@@ -37,4 +36,4 @@ pub shape_of-afters : goal.shape_of-afters
 shape_of-afters c = omega (arith, simp length-set at c.loop-r.invariant.2)
 
 pub returns : goal.returns
-returns c = c.loop-r.invariant.3 q (omega (arith, c.loop-r-test.false))
+returns c q h = c.loop-r.invariant.3 q (omega (arith, c.loop-r-test.false))

@@ -6,5 +6,4 @@ use Rattle.canonical.proofs.Zeros.{zeros}
 use Rattle.canonical.proofs.few_numbers.Goals as goal
 
 pub number_names-requires : goal.number_names-requires
-number_names-requires c =
-    zeros _ _ _ 32 32 c.requires.0 (omega arith) (omega (arith, c.requires.1)) c.requires.2
+number_names-requires c = let q = zeros _ _ _ 32 32 c.requires.0 (omega arith) (omega (arith, c.requires.1)) c.requires.2 in record { bytes_value = q.0; by_index = q.1 }

@@ -8,29 +8,29 @@ use Rattle.canonical.proofs.first_same.Goals as goal
 
 pub loop-m-init : goal.loop-m-init
 loop-m-init c =
-    chain-start _ _ _ _ _ _ (c.wide_number-m.ensures ∙ c.requires.1.0.0 _ c.requires.1.1.2)
+    chain-start _ _ _ _ _ _ (c.wide_number-m.ensures ∙ c.requires.heads.0 _ c.requires.key_value.2)
 
 pub returns-then-same_name : goal.returns-then-same_name
 returns-then-same_name c =
-    c.wide_word.ensures ∙ chain-found _ _ _ _ _ _ _ _ c.requires.1.0.1 _ c.loop-m.invariant c.loop-m-test.true
+    c.wide_word.ensures ∙ chain-found _ _ _ _ _ _ _ _ c.requires.heads.1 _ c.loop-m.invariant c.loop-m-test.true
     _ c.same_name.ensures c.if-same_name.true
 
 pub loop-m-smaller : goal.loop-m-smaller
 loop-m-smaller c =
-    omega (arith, c.wide_number-m-in-loop-m.ensures, chain-falls _ _ _ _ _ _ _ _ c.requires.1.0.1 _ c.loop-m.invariant c.loop-m-test.true)
+    omega (arith, c.wide_number-m-in-loop-m.ensures, chain-falls _ _ _ _ _ _ _ _ c.requires.heads.1 _ c.loop-m.invariant c.loop-m-test.true)
 
 pub loop-m-preserved : goal.loop-m-preserved
 loop-m-preserved c =
     let i = c.loop-m.invariant in
     let z = c.loop-m-test.true in
-    let k = c.requires.1.1 in
+    let k = c.requires.key_value in
     rw c.wide_number-m-in-loop-m.ensures
     (⊎_elim
-    (λ a. chain_next _ _ _ _ _ _ _ _ c.requires.1.0.1 _ i z _ k.0 k.1 _ a.1.ensures a.2.left)
-    (λ a. chain-other _ _ _ _ _ _ _ _ c.requires.1.0.1 _ i z _ k.0 k.1 a.left)
+    (λ a. chain_next _ _ _ _ _ _ _ _ c.requires.heads.1 _ i z _ k.0 k.1 _ a.1.ensures a.2.left)
+    (λ a. chain-other _ _ _ _ _ _ _ _ c.requires.heads.1 _ i z _ k.0 k.1 a.left)
     c.if-keys-m.branch)
 
 pub returns : goal.returns
 returns c =
-    let k = c.requires.1.1 in
-    chain-end _ _ _ _ _ _ _ _ c.requires.1.0.1 _ c.loop-m.invariant _ k.0 k.1 c.requires.0.1 (omega (arith, c.loop-m-test.false))
+    let k = c.requires.key_value in
+    chain-end _ _ _ _ _ _ _ _ c.requires.heads.1 _ c.loop-m.invariant _ k.0 k.1 c.requires.room.1 (omega (arith, c.loop-m-test.false))

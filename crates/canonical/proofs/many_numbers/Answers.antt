@@ -7,5 +7,4 @@ use Rattle.canonical.proofs.Zeros.{zeros}
 use Rattle.canonical.proofs.many_numbers.Goals as goal
 
 pub number_names-requires : goal.number_names-requires
-number_names-requires c =
-    zeros _ _ _ 512 501 c.requires.0 (omega arith) (omega (arith, number_small _ _ c.requires.0)) c.requires.1
+number_names-requires c = let q = zeros _ _ _ 512 501 c.requires.0 (omega arith) (omega (arith, number_small _ _ c.requires.0)) c.requires.1 in record { bytes_value = q.0; by_index = q.1 }

@@ -14,29 +14,29 @@ use Rattle.destinations.proofs.destination.Tie as tie
 
 -- ---- what the tables say at each detail
 few : (c : tie.After-detail) → row_count c.args.rows.now ≤ 2000
-few c = (formed c.requires.0.faultless).most_rows
+few c = (formed c.requires.tables.faultless).most_rows
 
-on-break : (c : tie.In-0) → BreakPlace c.requires.0 c.args.r c.requires.1.0
+on-break : (c : tie.In-0) → BreakPlace c.requires.tables c.args.r c.requires.r_bound.0
 on-break c =
-    let row = c.requires.1.0 in
-    break-place c.requires.0 _ row (is-break _ _ _ (allowed c.requires.0 _ row) c.requires.1.1 c.detail.ensures c.in-0.keys1)
+    let row = c.requires.r_bound.0 in
+    break-place c.requires.tables _ row (is-break _ _ _ (allowed c.requires.tables _ row) c.requires.r_bound.1 c.detail.ensures c.in-0.keys1)
 
-on-continue : (c : tie.In-1) → ContinuePlace c.requires.0 c.args.r c.requires.1.0
+on-continue : (c : tie.In-1) → ContinuePlace c.requires.tables c.args.r c.requires.r_bound.0
 on-continue c =
-    let row = c.requires.1.0 in
-    continue-place c.requires.0 _ row (is-continue _ _ _ (allowed c.requires.0 _ row) c.requires.1.1 c.detail.ensures c.in-1.keys2)
+    let row = c.requires.r_bound.0 in
+    continue-place c.requires.tables _ row (is-continue _ _ _ (allowed c.requires.tables _ row) c.requires.r_bound.1 c.detail.ensures c.in-1.keys2)
 
-on_goto : (c : tie.In-2) → GotoPlace c.requires.0 c.args.r c.requires.1.0
+on_goto : (c : tie.In-2) → GotoPlace c.requires.tables c.args.r c.requires.r_bound.0
 on_goto c =
-    let row = c.requires.1.0 in
-    goto-place c.requires.0 _ row (is-goto _ _ _ (allowed c.requires.0 _ row) c.requires.1.1 c.detail.ensures c.in-2.keys3)
+    let row = c.requires.r_bound.0 in
+    goto-place c.requires.tables _ row (is-goto _ _ _ (allowed c.requires.tables _ row) c.requires.r_bound.1 c.detail.ensures c.in-2.keys3)
 
-on-fallthrough : (c : tie.In_default) → FallthroughPlace c.requires.0 c.args.r c.requires.1.0
+on-fallthrough : (c : tie.In_default) → FallthroughPlace c.requires.tables c.args.r c.requires.r_bound.0
 on-fallthrough c =
-    let row = c.requires.1.0 in
+    let row = c.requires.r_bound.0 in
     let n = c.in_default.rest in
-    fallthrough-place c.requires.0 _ row
-    (is-fallthrough _ _ _ (allowed c.requires.0 _ row) c.requires.1.1 c.detail.ensures n.0.0.1 n.0.1 n.1)
+    fallthrough-place c.requires.tables _ row
+    (is-fallthrough _ _ _ (allowed c.requires.tables _ row) c.requires.r_bound.1 c.detail.ensures n.0.0.1 n.0.1 n.1)
 
 -- where the Case of a fallthrough ends
 next : (c : tie.After-size) →
@@ -51,7 +51,7 @@ offset_bounds-afters-left c = omega (arith, c.statement-left.ensures, (on-break 
 
 pub bounds-afters-left : goal.bounds-afters-left
 bounds-afters-left c =
-    omega (arith, c.statement-left.ensures, (on-break c.before.before.before.before).1, c.requires.0.afters_room)
+    omega (arith, c.statement-left.ensures, (on-break c.before.before.before.before).1, c.requires.tables.afters_room)
 
 pub statement-requires : goal.statement-requires
 statement-requires c = (on-continue c.before.before).0

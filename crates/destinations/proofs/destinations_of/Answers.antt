@@ -6,17 +6,15 @@ use Rattle.destinations.proofs.destinations_of.Goals as goal
 
 pub enclosing_of-requires : goal.enclosing_of-requires
 enclosing_of-requires c =
-    let p = c.requires in
+    let p = (c.requires.faultless, (c.requires.parents, c.requires.rows_in_bounds)) in
     let body = formed p.0.0 in
-    let few = body.most_rows in
-    ((((_, _, body)), p.1.0.0, p.1.1.0), (few, few, few))
+    let few = body.most_rows in record { formed = (((_, _, body)), p.1.0.0, p.1.1.0); rows_in_bounds = (few, few, few) }
 
 pub write_destinations-requires : goal.write_destinations-requires
 write_destinations-requires c =
-    let p = c.requires in
+    let p = (c.requires.faultless, (c.requires.parents, c.requires.rows_in_bounds)) in
     let few = (formed p.0.0).most_rows in
-    let around = c.enclosing_of.ensures in (
-      record {
+    let around = c.enclosing_of.ensures in record { tables = record {
         faultless = p.0.0;
         bound = p.0.1;
         afters_room = p.1.1.1;
@@ -27,6 +25,4 @@ write_destinations-requires c =
         loop_rows = around.1.0;
         cases_room = search rules;
         case_rows = around.1.1;
-      },
-      p.1.1.2,
-    )
+      }; rows_in_bounds = (p.1.1.2, ) }

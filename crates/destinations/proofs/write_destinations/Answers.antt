@@ -20,8 +20,7 @@ pub kind-requires : goal.kind-requires
 kind-requires c = omega arith
 
 pub destination-place-requires : goal.destination-place-requires
-destination-place-requires c =
-    (c.requires.0, (c.loop-r-test.true, sym c.kind.ensures ∙ c.if-kind-eq-BRANCH.true))
+destination-place-requires c = record { tables = c.requires.tables; r_bound = (c.loop-r-test.true, sym c.kind.ensures ∙ c.if-kind-eq-BRANCH.true) }
 
 pub overflow_cast-destinations : goal.overflow_cast-destinations
 overflow_cast-destinations c = omega (arith, c.destination-place.ensures.1)
@@ -30,7 +29,7 @@ pub offset_bounds-destinations-r : goal.offset_bounds-destinations-r
 offset_bounds-destinations-r c = omega arith
 
 pub bounds-destinations-r : goal.bounds-destinations-r
-bounds-destinations-r c = omega (arith, c.requires.1, c.loop-r.invariant.1)
+bounds-destinations-r c = omega (arith, c.requires.rows_in_bounds, c.loop-r.invariant.1)
 
 pub overflow_add-r : goal.overflow_add-r
 overflow_add-r c = omega arith
@@ -42,14 +41,14 @@ loop-r-smaller c = omega arith
 no-branch : (k : tie.After-kind goal.the-invariant-loop-r goal.the-decreases-loop-r) → (k.kind.result ≡ 11 → ⊥)
     → is_branch (class k.args.rows.now k.loop-r.r) ≡ false
 no-branch k n =
-    let a = (formed k.requires.0.faultless).details k.loop-r.r k.loop-r-test.true in
+    let a = (formed k.requires.tables.faultless).details k.loop-r.r k.loop-r-test.true in
     sym (branch-kind k.args.rows.now _ a) ∙ ne_eqb _ 11 (λ e. n (k.kind.ensures ∙ e))
 
 pub loop-r-preserved : goal.loop-r-preserved
 loop-r-preserved c =
     let row = c.loop-r-test.true in
     let same = c.loop-r.invariant.1 in
-    let room : c.loop-r.r < length c.loop-r.destinations = omega (arith, c.requires.1) in
+    let room : c.loop-r.r < length c.loop-r.destinations = omega (arith, c.requires.rows_in_bounds) in
     ⊎_elim
     (λ a. (
       omega arith,

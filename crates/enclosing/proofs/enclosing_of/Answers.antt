@@ -18,49 +18,49 @@ parent : (c : tie.After-shared_slice_known-in-loop-r-1 goal.the-invariant-loop-r
     let v = get_or a.parents.now c.loop-r.r 0 in (0 < v) × ParentOf a.rows.now c.loop-r.r (v - 1)
 parent c =
     let row = c.loop-r-test.true in
-    let (some, before, child) = parent-word c.requires.0.0.2 c.args.parents.now c.loop-r.r _ c.requires.0.1 c.loop-r.invariant.0 row refl in
+    let (some, before, child) = parent-word c.requires.formed.0.2 c.args.parents.now c.loop-r.r _ c.requires.formed.1 c.loop-r.invariant.0 row refl in
     (some, record { before = before; child = child })
 
 room : (c : tie.After-shared_slice_known-in-loop-r-1 goal.the-invariant-loop-r goal.the-decreases-loop-r) →
     let n = row_count c.args.rows.now in (n ≤ length c.loop-r.breakables) × (n ≤ length c.loop-r.loops) × (n ≤ length c.loop-r.cases)
 room c =
-    let p = c.requires.1 in (
+    let p = c.requires.rows_in_bounds in (
       omega (arith, p.0, simp length-set at c.loop-r.invariant.2.same_length),
       omega (arith, p.1, simp length-set at c.loop-r.invariant.3.same_length),
       omega (arith, p.2, simp length-set at c.loop-r.invariant.4.same_length),
     )
 
 small : (c : tie.After-shared_slice_known-in-loop-r-1 goal.the-invariant-loop-r goal.the-decreases-loop-r) → c.loop-r.r < 2000
-small c = omega (arith, c.loop-r-test.true, c.requires.0.0.2.most_rows)
+small c = omega (arith, c.loop-r-test.true, c.requires.formed.0.2.most_rows)
 
 pub bounds-breakables-0 : goal.bounds-breakables-0
-bounds-breakables-0 c = omega (arith, c.requires.1, c.requires.0.0.2.some_rows)
+bounds-breakables-0 c = omega (arith, c.requires.rows_in_bounds, c.requires.formed.0.2.some_rows)
 
 pub bounds-loops-0 : goal.bounds-loops-0
-bounds-loops-0 c = omega (arith, c.requires.1, c.requires.0.0.2.some_rows)
+bounds-loops-0 c = omega (arith, c.requires.rows_in_bounds, c.requires.formed.0.2.some_rows)
 
 pub bounds-cases-0 : goal.bounds-cases-0
-bounds-cases-0 c = omega (arith, c.requires.1, c.requires.0.0.2.some_rows)
+bounds-cases-0 c = omega (arith, c.requires.rows_in_bounds, c.requires.formed.0.2.some_rows)
 
 pub loop-r-init : goal.loop-r-init
 loop-r-init c =
-    let some = c.requires.0.0.2.some_rows in
+    let some = c.requires.formed.0.2.some_rows in
     let w = c.args.rows.now in (
       omega arith,
       omega arith,
-      filled-start w is_breakable c.args.breakables.now (omega (arith, c.requires.1)),
-      filled-start w is_loop c.args.loops.now (omega (arith, c.requires.1)),
-      filled-start w is_case c.args.cases.now (omega (arith, c.requires.1)),
+      filled-start w is_breakable c.args.breakables.now (omega (arith, c.requires.rows_in_bounds)),
+      filled-start w is_loop c.args.loops.now (omega (arith, c.requires.rows_in_bounds)),
+      filled-start w is_case c.args.cases.now (omega (arith, c.requires.rows_in_bounds)),
     )
 
 pub offset_bounds-parents-r : goal.offset_bounds-parents-r
 offset_bounds-parents-r c = omega arith
 
 pub bounds-parents-r : goal.bounds-parents-r
-bounds-parents-r c = omega (arith, c.requires.0.2)
+bounds-parents-r c = omega (arith, c.requires.formed.2)
 
 pub overflow_cast-p : goal.overflow_cast-p
-overflow_cast-p c = omega (arith, (parent c.before).1.before, c.requires.0.0.2.most_rows)
+overflow_cast-p c = omega (arith, (parent c.before).1.before, c.requires.formed.0.2.most_rows)
 
 pub overflow_sub-p : goal.overflow_sub-p
 overflow_sub-p c = omega (arith, (parent c.before).0)
@@ -133,12 +133,12 @@ by_kind : (c : tie.After-kind-kind goal.the-invariant-loop-r goal.the-decreases-
     P (class w q) ≡ P (base w q) → (x : Bool) → ((d : ℕ) → detail_allowed c.kind-kind.result d ≡ true → x ≡ P (class_of c.kind-kind.result d))
     → x ≡ P (class w q)
 by_kind c P own x h =
-    let body = c.requires.0.0.2 in
+    let body = c.requires.formed.0.2 in
     by-words P _ _ c.kind-kind.result x own c.kind-kind.ensures (body.details _ (omega (arith, (parent c.before).1.before, c.loop-r-test.true))) h
 
 pub loop-r-preserved : goal.loop-r-preserved
 loop-r-preserved c =
-    let body = c.requires.0.0.2 in
+    let body = c.requires.formed.0.2 in
     let row = c.loop-r-test.true in
     let q = (parent c.before.before.before.before.before.before.before.before.before.before).1 in
     let h = room c.before.before.before.before.before.before.before.before.before.before in
@@ -166,5 +166,4 @@ shape_of-cases c = omega (arith, simp length-set at c.loop-r.invariant.4.same_le
 pub returns : goal.returns
 returns c =
     let v = c.loop-r.invariant in
-    let e = c.loop-r-test.false in
-    (λ k h. v.2.words k (omega arith), (λ k h. v.3.words k (omega arith), λ k h. v.4.words k (omega arith)))
+    let e = c.loop-r-test.false in record { breakables = λ k h. v.2.words k (omega arith); loops = λ k h. v.3.words k (omega arith); cases = λ k h. v.4.words k (omega arith) }

@@ -22,12 +22,11 @@ pub overflow_add-value : goal.overflow_add-value
 overflow_add-value c = omega (arith, small_row _ _ _ _ (bad c.before))
 
 pub returns-in-Refused : goal.returns-in-Refused
-returns-in-Refused c =
-    tells told_placing c.number_of.ensures c.index_of.ensures
-    (sym (ap given c.in-Refused.is) ∙ c.ask_placing.ensures)
+returns-in-Refused c = let q = tells told_placing c.number_of.ensures c.index_of.ensures
+    (sym (ap given c.in-Refused.is) ∙ c.ask_placing.ensures) in record { number = q.0; value = q.1 }
 
 pub returns-in-Bad : goal.returns-in-Bad
-returns-in-Bad c = tells told_placing refl (add-one _) (bad c.before)
+returns-in-Bad c = let q = tells told_placing refl (add-one _) (bad c.before) in record { number = q.0; value = q.1 }
 
 pub returns-in-Well : goal.returns-in-Well
-returns-in-Well c = tells told_placing refl refl (sym (ap given c.in-Well.is) ∙ c.ask_placing.ensures)
+returns-in-Well c = let q = tells told_placing refl refl (sym (ap given c.in-Well.is) ∙ c.ask_placing.ensures) in record { number = q.0; value = q.1 }

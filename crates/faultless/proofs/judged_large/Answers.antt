@@ -6,5 +6,4 @@ use borrow.Author.Rules.{rules}
 use Rattle.faultless.proofs.judged_large.Goals as goal
 
 pub judged-requires : goal.judged-requires
-judged-requires c =
-    (c.requires.0, (omega (arith, (body _ _ _ c.requires.0).most_rows), c.requires.1))
+judged-requires c = record { well_formed = c.requires.0; rows_in_bounds = (omega (arith, (body _ _ _ c.requires.0).most_rows), c.requires.1) }

@@ -22,11 +22,11 @@ read_on-input-requires c =
 pub loop-input-smaller : goal.loop-input-smaller
 loop-input-smaller c =
     let going = not-true _ c.loop-input-test.true in
-    less-left _ _ _ 65536 _ _ going (c.loop-input.invariant.1 going) (omega arith) c.read_on-input.ensures.0 c.read_on-input.ensures.1
+    less-left _ _ _ 65536 _ _ going (c.loop-input.invariant.1 going) (omega arith) c.read_on-input.ensures.length c.read_on-input.ensures.ended
 
 pub loop-input-preserved : goal.loop-input-preserved
 loop-input-preserved c =
     (
       omega (arith, c.loop-input.invariant.0, c.read_full-got.auto.1.0),
-      λ e. rw c.read_on-input.ensures.0 (not_last _ _ (sym c.read_on-input.ensures.1 ∙ e)),
+      λ e. rw c.read_on-input.ensures.length (not_last _ _ (sym c.read_on-input.ensures.ended ∙ e)),
     )

@@ -10,46 +10,45 @@ use Rattle.jumps.proofs.BranchSteps.{faults-small, break-bound, break-fits, brea
 use Rattle.jumps.proofs.break_branches.Goals as goal
 
 pub valid_target-requires : goal.valid_target-requires
-valid_target-requires c =
-    (c.requires.0, (c.requires.1.0.block_labels, (c.requires.1.1.0, c.requires.1.1.1)))
+valid_target-requires c = record { tables = c.requires.tables; block_labels = c.requires.walking.block_labels; row_bound = (c.requires.row_bound.0, c.requires.row_bound.1) }
 
 pub canon_of-c-requires : goal.canon_of-c-requires
 canon_of-c-requires c =
-    (c.requires.1.1.0, canon-place c.requires.0 _ c.requires.1.1.0)
+    (c.requires.row_bound.0, canon-place c.requires.tables _ c.requires.row_bound.0)
 
 pub offset_bounds-label_rows-c : goal.offset_bounds-label_rows-c
 offset_bounds-label_rows-c c =
-    omega (arith, declared-place c.requires.0 _ _ c.requires.1.1.0 c.canon_of-c.ensures)
+    omega (arith, declared-place c.requires.tables _ _ c.requires.row_bound.0 c.canon_of-c.ensures)
 
 pub bounds-label_rows-c : goal.bounds-label_rows-c
 bounds-label_rows-c c =
-    declared-place c.requires.0 _ _ c.requires.1.1.0 c.canon_of-c.ensures
+    declared-place c.requires.tables _ _ c.requires.row_bound.0 c.canon_of-c.ensures
 
 pub overflow_cast-bindings : goal.overflow_cast-bindings
 overflow_cast-bindings c = omega (arith, c.shared_slice_known-then-valid_target-1.given c.canon_of-c.result)
 
 pub returns-then-valid_target : goal.returns-then-valid_target
 returns-then-valid_target c =
-    break-bound c.requires.0 _ _ _ _ _ _ c.requires.1.1.0 c.requires.1.0 c.requires.1.1.1 c.requires.1.1.2 _ _ c.canon_of-c.ensures refl
+    break-bound c.requires.tables _ _ _ _ _ _ c.requires.row_bound.0 c.requires.walking c.requires.row_bound.1 c.requires.row_bound.2 _ _ c.canon_of-c.ensures refl
     (sym c.if-valid_target.true ∙ c.valid_target.ensures)
 
 pub overflow_add-code : goal.overflow_add-code
 overflow_add-code c =
-    omega (arith, break-detail c.args.rows.now _ (c.requires.0.body.details _ c.requires.1.1.0) c.requires.1.1.1, c.detail-code.ensures)
+    omega (arith, break-detail c.args.rows.now _ (c.requires.tables.body.details _ c.requires.row_bound.0) c.requires.row_bound.1, c.detail-code.ensures)
 
 pub put-requires : goal.put-requires
 put-requires c =
     (
-      c.requires.1.1.0,
-      break-fits c.requires.0 _ _ _ _ _ _ c.requires.1.1.0 c.requires.1.0 c.requires.1.1.1 c.requires.1.1.2 _ (ap (λ (n : ℕ). 4 + n) c.detail-code.ensures)
+      c.requires.row_bound.0,
+      break-fits c.requires.tables _ _ _ _ _ _ c.requires.row_bound.0 c.requires.walking c.requires.row_bound.1 c.requires.row_bound.2 _ (ap (λ (n : ℕ). 4 + n) c.detail-code.ensures)
           (sym c.if-valid_target.false ∙ c.valid_target.ensures),
     )
 
 pub overflow_add-result : goal.overflow_add-result
 overflow_add-result c =
-    omega (arith, faults-small c.requires.0 _ _ _ _ _ _ c.requires.1.1.0 c.requires.1.0)
+    omega (arith, faults-small c.requires.tables _ _ _ _ _ _ c.requires.row_bound.0 c.requires.walking)
 
 pub returns : goal.returns
 returns c =
-    break-walked c.requires.0 _ _ _ _ _ _ c.requires.1.1.0 c.requires.1.0 c.requires.1.1.1 c.requires.1.1.2 _ (ap (λ (n : ℕ). 4 + n) c.detail-code.ensures)
+    break-walked c.requires.tables _ _ _ _ _ _ c.requires.row_bound.0 c.requires.walking c.requires.row_bound.1 c.requires.row_bound.2 _ (ap (λ (n : ℕ). 4 + n) c.detail-code.ensures)
     (sym c.if-valid_target.false ∙ c.valid_target.ensures) _ c.put.ensures

@@ -8,24 +8,24 @@ use Rattle.jumps.proofs.goto_branches.Goals as goal
 
 pub overflow_cast-bindings : goal.overflow_cast-bindings
 overflow_cast-bindings c =
-    omega (arith, label_small c.requires.0 _ _ _ _ _ _ c.requires.1.1.0 c.requires.1.0 c.requires.1.1.1 _ c.goto_target-label.ensures)
+    omega (arith, label_small c.requires.tables _ _ _ _ _ _ c.requires.row_bound.0 c.requires.walking c.requires.row_bound.1 _ c.goto_target-label.ensures)
 
 pub returns-then-label-ne0 : goal.returns-then-label-ne0
 returns-then-label-ne0 c =
-    goto-bound c.requires.0 _ _ _ _ _ _ c.requires.1.1.0 c.requires.1.0 c.requires.1.1.1 _ c.goto_target-label.ensures c.if-label-ne0.true
+    goto-bound c.requires.tables _ _ _ _ _ _ c.requires.row_bound.0 c.requires.walking c.requires.row_bound.1 _ c.goto_target-label.ensures c.if-label-ne0.true
 
 pub canon_of-c-requires : goal.canon_of-c-requires
 canon_of-c-requires c =
-    (c.requires.1.1.0, canon-place c.requires.0 _ c.requires.1.1.0)
+    (c.requires.row_bound.0, canon-place c.requires.tables _ c.requires.row_bound.0)
 
 pub offset_bounds-heads-c : goal.offset_bounds-heads-c
 offset_bounds-heads-c c =
     omega (
       arith,
-      goto-place c.requires.0
-          _ _ _ _ _ _ c.requires.1.1.0
-          c.requires.1.0
-          c.requires.1.1.1 _
+      goto-place c.requires.tables
+          _ _ _ _ _ _ c.requires.row_bound.0
+          c.requires.walking
+          c.requires.row_bound.1 _
           c.goto_target-label.ensures
           c.if-label-ne0.false _
           c.canon_of-c.ensures,
@@ -33,16 +33,16 @@ offset_bounds-heads-c c =
 
 pub bounds-heads-c : goal.bounds-heads-c
 bounds-heads-c c =
-    goto-place c.requires.0 _ _ _ _ _ _ c.requires.1.1.0 c.requires.1.0 c.requires.1.1.1 _ c.goto_target-label.ensures c.if-label-ne0.false _ c.canon_of-c.ensures
+    goto-place c.requires.tables _ _ _ _ _ _ c.requires.row_bound.0 c.requires.walking c.requires.row_bound.1 _ c.goto_target-label.ensures c.if-label-ne0.false _ c.canon_of-c.ensures
 
 pub offset_bounds-heads-c-then-c-ne0 : goal.offset_bounds-heads-c-then-c-ne0
 offset_bounds-heads-c-then-c-ne0 c =
     omega (
       arith,
-      goto-place c.requires.0
-          _ _ _ _ _ _ c.requires.1.1.0
-          c.requires.1.0
-          c.requires.1.1.1 _
+      goto-place c.requires.tables
+          _ _ _ _ _ _ c.requires.row_bound.0
+          c.requires.walking
+          c.requires.row_bound.1 _
           c.goto_target-label.ensures
           c.if-label-ne0.false _
           c.canon_of-c.ensures,
@@ -50,14 +50,14 @@ offset_bounds-heads-c-then-c-ne0 c =
 
 pub bounds-heads-c-then-c-ne0 : goal.bounds-heads-c-then-c-ne0
 bounds-heads-c-then-c-ne0 c =
-    goto-place c.requires.0 _ _ _ _ _ _ c.requires.1.1.0 c.requires.1.0 c.requires.1.1.1 _ c.goto_target-label.ensures c.if-label-ne0.false _ c.canon_of-c.ensures
+    goto-place c.requires.tables _ _ _ _ _ _ c.requires.row_bound.0 c.requires.walking c.requires.row_bound.1 _ c.goto_target-label.ensures c.if-label-ne0.false _ c.canon_of-c.ensures
 
 pub returns-then-c-ne0 : goal.returns-then-c-ne0
 returns-then-c-ne0 c =
-    goto-pending c.requires.0 _ _ _ _ _ _ c.requires.1.1.0 c.requires.1.0 c.requires.1.1.1 _ c.goto_target-label.ensures c.if-label-ne0.false _ c.canon_of-c.ensures
+    goto-pending c.requires.tables _ _ _ _ _ _ c.requires.row_bound.0 c.requires.walking c.requires.row_bound.1 _ c.goto_target-label.ensures c.if-label-ne0.false _ c.canon_of-c.ensures
     c.if-c-ne0.true
 
 pub returns-else-c-ne0 : goal.returns-else-c-ne0
 returns-else-c-ne0 c =
-    goto-blank c.requires.0 _ _ _ _ _ _ c.requires.1.1.0 c.requires.1.0 c.requires.1.1.1 _ c.goto_target-label.ensures c.if-label-ne0.false _ c.canon_of-c.ensures
+    goto-blank c.requires.tables _ _ _ _ _ _ c.requires.row_bound.0 c.requires.walking c.requires.row_bound.1 _ c.goto_target-label.ensures c.if-label-ne0.false _ c.canon_of-c.ensures
     c.if-c-ne0.false

@@ -8,50 +8,50 @@ use Rattle.jumps.proofs.goto_target.Goals as goal
 
 pub canon_of-c-requires : goal.canon_of-c-requires
 canon_of-c-requires c =
-    (c.requires.1.0, canon-place c.requires.0 c.args.row.0 c.requires.1.0)
+    (c.requires.row_bound.0, canon-place c.requires.tables c.args.row.0 c.requires.row_bound.0)
 
 pub returns-then-c-eq0 : goal.returns-then-c-eq0
 returns-then-c-eq0 c =
-    no-canon c.requires.0 _ c.requires.1.0 c.canon_of-c.ensures c.if-c-eq0.true
+    no-canon c.requires.tables _ c.requires.row_bound.0 c.canon_of-c.ensures c.if-c-eq0.true
 
 pub offset_bounds-label_rows-c : goal.offset_bounds-label_rows-c
 offset_bounds-label_rows-c c =
-    omega (arith, declared-place c.requires.0 _ _ c.requires.1.0 c.canon_of-c.ensures)
+    omega (arith, declared-place c.requires.tables _ _ c.requires.row_bound.0 c.canon_of-c.ensures)
 
 pub bounds-label_rows-c : goal.bounds-label_rows-c
 bounds-label_rows-c c =
-    declared-place c.requires.0 _ _ c.requires.1.0 c.canon_of-c.ensures
+    declared-place c.requires.tables _ _ c.requires.row_bound.0 c.canon_of-c.ensures
 
 pub returns-then-declared-eq0 : goal.returns-then-declared-eq0
 returns-then-declared-eq0 c =
-    no-declared c.requires.0 _ c.requires.1.0 c.canon_of-c.ensures c.if-c-eq0.false _ c.wide-declared.ensures c.if-declared-eq0.true
+    no-declared c.requires.tables _ c.requires.row_bound.0 c.canon_of-c.ensures c.if-c-eq0.false _ c.wide-declared.ensures c.if-declared-eq0.true
 
 pub returns-then-row-label : goal.returns-then-row-label
 returns-then-row-label c =
-    label_after c.requires.0 _ c.requires.1.0 c.canon_of-c.ensures c.if-c-eq0.false _ c.wide-declared.ensures c.if-declared-eq0.false c.if-row-label.true
+    label_after c.requires.tables _ c.requires.row_bound.0 c.canon_of-c.ensures c.if-c-eq0.false _ c.wide-declared.ensures c.if-declared-eq0.false c.if-row-label.true
 
 pub returns-then-list-eq0 : goal.returns-then-list-eq0
 returns-then-list-eq0 c =
-    no-list c.requires.0 _ c.requires.1.0 c.canon_of-c.ensures c.if-c-eq0.false _ c.wide-declared.ensures c.if-declared-eq0.false c.if-row-label.false _ c.wide-list.ensures c.if-list-eq0.true
+    no-list c.requires.tables _ c.requires.row_bound.0 c.canon_of-c.ensures c.if-c-eq0.false _ c.wide-declared.ensures c.if-declared-eq0.false c.if-row-label.false _ c.wide-list.ensures c.if-list-eq0.true
 
 pub size-requires : goal.size-requires
 size-requires c =
-    list-in c.requires.0 _ c.requires.1.0 c.canon_of-c.ensures c.if-c-eq0.false _ c.wide-declared.ensures c.if-declared-eq0.false c.if-row-label.false _ c.wide-list.ensures
+    list-in c.requires.tables _ c.requires.row_bound.0 c.canon_of-c.ensures c.if-c-eq0.false _ c.wide-declared.ensures c.if-declared-eq0.false c.if-row-label.false _ c.wide-list.ensures
 
 pub overflow_add-l : goal.overflow_add-l
 overflow_add-l c =
     omega (
       arith,
-      list-small c.requires.0 _ c.requires.1.0 c.canon_of-c.ensures c.if-c-eq0.false _ c.wide-declared.ensures c.if-declared-eq0.false c.if-row-label.false _ c.wide-list.ensures
+      list-small c.requires.tables _ c.requires.row_bound.0 c.canon_of-c.ensures c.if-c-eq0.false _ c.wide-declared.ensures c.if-declared-eq0.false c.if-row-label.false _ c.wide-list.ensures
           c.if-list-eq0.false _ c.size.ensures,
     )
 
 pub returns-then-l-size : goal.returns-then-l-size
 returns-then-l-size c =
-    list-ended c.requires.0 _ c.requires.1.0 c.canon_of-c.ensures c.if-c-eq0.false _ c.wide-declared.ensures c.if-declared-eq0.false c.if-row-label.false _ c.wide-list.ensures c.if-list-eq0.false _
+    list-ended c.requires.tables _ c.requires.row_bound.0 c.canon_of-c.ensures c.if-c-eq0.false _ c.wide-declared.ensures c.if-declared-eq0.false c.if-row-label.false _ c.wide-list.ensures c.if-list-eq0.false _
     c.size.ensures c.if-l-size.true
 
 pub returns : goal.returns
 returns c =
-    list-around c.requires.0 _ c.requires.1.0 c.canon_of-c.ensures c.if-c-eq0.false _ c.wide-declared.ensures c.if-declared-eq0.false c.if-row-label.false _ c.wide-list.ensures c.if-list-eq0.false _
+    list-around c.requires.tables _ c.requires.row_bound.0 c.canon_of-c.ensures c.if-c-eq0.false _ c.wide-declared.ensures c.if-declared-eq0.false c.if-row-label.false _ c.wide-list.ensures c.if-list-eq0.false _
     c.size.ensures c.if-l-size.false

@@ -23,4 +23,4 @@ pub labels_of-requires : goal.labels_of-requires
 labels_of-requires c = well_formed c.refusal_of.ensures c.in-WellFormed.is
 
 pub returns-in-Refused : goal.returns-in-Refused
-returns-in-Refused c = call-refused _ _ _ _ _ _ (refused_as c.refusal_of.ensures c.in-Refused.is)
+returns-in-Refused c = let q = call-refused _ _ _ _ _ _ (refused_as c.refusal_of.ensures c.in-Refused.is) in record { answer = q.0; sheet = q.1.0; bindings = q.1.1 }

@@ -7,13 +7,13 @@ use Rattle.label.proofs.CallRows.{call-short-sheet, call-short-bindings, call-an
 use Rattle.label.proofs.labels_of.Goals as goal
 
 pub returns-then-sheet-count : goal.returns-then-sheet-count
-returns-then-sheet-count c = call-short-sheet _ _ _ _ _ (sym c.requires) c.if-sheet-count.true
+returns-then-sheet-count c = let q = call-short-sheet _ _ _ _ _ (sym c.requires) c.if-sheet-count.true in record { answer = q.0; sheet = q.1.0; bindings = q.1.1 }
 
 pub returns-then-bindings-count : goal.returns-then-bindings-count
-returns-then-bindings-count c = call-short-bindings _ _ _ _ _ (sym c.requires) c.if-sheet-count.false c.if-bindings-count.true
+returns-then-bindings-count c = let q = call-short-bindings _ _ _ _ _ (sym c.requires) c.if-sheet-count.false c.if-bindings-count.true in record { answer = q.0; sheet = q.1.0; bindings = q.1.1 }
 
 pub faults-requires : goal.faults-requires
-faults-requires c = (body _ _ _ c.requires, (c.if-sheet-count.false, c.if-bindings-count.false))
+faults-requires c = record { body = body _ _ _ c.requires; rows_in_bounds = (c.if-sheet-count.false, c.if-bindings-count.false) }
 
 pub shape_of-sheet : goal.shape_of-sheet
 shape_of-sheet c = c.sheet-1.given
@@ -22,6 +22,5 @@ pub shape_of-bindings : goal.shape_of-bindings
 shape_of-bindings c = c.bindings-1.given
 
 pub returns : goal.returns
-returns c =
-    call-answered _ _ _ _ _ (sym c.requires) _ _ _ c.if-sheet-count.false c.if-bindings-count.false
-    c.faults.ensures
+returns c = let q = call-answered _ _ _ _ _ (sym c.requires) _ _ _ c.if-sheet-count.false c.if-bindings-count.false
+    c.faults.ensures in record { answer = q.0; sheet = q.1.0; bindings = q.1.1 }

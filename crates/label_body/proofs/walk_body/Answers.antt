@@ -4,81 +4,28 @@
 use mathlib.Core.Path.{◌∙◌}
 use Rattle.label_body.proofs.BodyRows.{walk-requires, walked_end, tables-room, unused-start, walked-answered}
 use Rattle.label_body.proofs.walk_body.Goals as goal
-use Rattle.label_body.proofs.walk_body.Tie as tie
-
-abbrev at-canon-table-1 : tie.After-declared-table-arg2 → tie.After-canon_table
-at-canon-table-1 c = c.before.before.before.before
-
-abbrev at-start-2 : tie.After-declared-table-arg2 → tie.Start
-at-start-2 c = at-start-1 (at-canon-table-1 c).before
-
-abbrev at-declared-table-1 : tie.After-rows-branches-arg9 → tie.After-declared_table
-at-declared-table-1 c = c.before.before.before.before.before.before.before.before.before.before.before
-
-abbrev at-canon-table-2 : tie.After-rows-branches-arg9 → tie.After-canon_table
-at-canon-table-2 c = at-canon-table-1 (at-declared-table-1 c).before
-
-abbrev at-start-3 : tie.After-rows-branches-arg9 → tie.Start
-at-start-3 c = at-start-2 (at-declared-table-1 c).before
-
-abbrev at-rows-branches-2 : tie.After-unresolved-arg5 → tie.After-rows_branches-walked
-at-rows-branches-2 c = at-rows-branches-1 c.before.before.before.before.before.before.before.before.before.before.before.before.before.before
-
-abbrev at-declared-table-2 : tie.After-unresolved-arg5 → tie.After-declared_table
-at-declared-table-2 c = at-declared-table-1 (at-rows-branches-2 c).before
-
-abbrev at-canon-table-3 : tie.After-unresolved-arg5 → tie.After-canon_table
-at-canon-table-3 c = at-canon-table-2 (at-rows-branches-2 c).before
-
-abbrev at-start-4 : tie.After-unresolved-arg5 → tie.Start
-at-start-4 c = at-start-3 (at-rows-branches-2 c).before
-
-abbrev at-unresolved-1 : tie.After-unused-arg5 → tie.After-unresolved-more
-at-unresolved-1 c = c.before.before.before.before.before.before.before.before.before
-
-abbrev at-goto-or-label-1 : tie.After-unused-arg5 → tie.After-goto_or_label-1
-at-goto-or-label-1 c = (at-unresolved-1 c).before.before.before.before.before.before.before.before.before.before.before
-
-abbrev at-rows-branches-3 : tie.After-unused-arg5 → tie.After-rows_branches-walked
-at-rows-branches-3 c = at-rows-branches-2 (at-unresolved-1 c).before
-
-abbrev at-declared-table-3 : tie.After-unused-arg5 → tie.After-declared_table
-at-declared-table-3 c = at-declared-table-2 (at-unresolved-1 c).before
-
-abbrev at-start-5 : tie.After-unused-arg5 → tie.Start
-at-start-5 c = at-start-4 (at-unresolved-1 c).before
 
 pub canon_table-requires : goal.canon_table-requires
 canon_table-requires c =
-    (c.requires.0.names, c.requires.1.canonical_room)
+    (c.requires.body.names, c.requires.lent.canonical_room)
 
 pub declared_table-requires : goal.declared_table-requires
-declared_table-requires c =
-    let s = at-start-2 c.before in
-    ((s.pre.0, (at-canon-table-1 c.before).canon-table.ensures), (s.pre.1.label_rows_room, s.pre.1.label_rows_zero))
+declared_table-requires c = record { body = (c.requires.body, c.canon_table.ensures); pairs_in_bounds = (c.requires.lent.label_rows_room, c.requires.lent.label_rows_zero) }
 
 pub rows_branches-walked-requires : goal.rows_branches-walked-requires
-rows_branches-walked-requires c =
-    let s = at-start-3 c.before in
-    walk-requires s.pre.0 _ _ _ _ _ _ _ _ _ _ _ _ s.pre.1 (at-canon-table-2 c.before).canon-table.ensures (at-declared-table-1 c.before).declared-table.ensures
+rows_branches-walked-requires c = let q = walk-requires c.requires.body _ _ _ _ _ _ _ _ _ _ _ _ c.requires.lent c.canon_table.ensures c.declared_table.ensures in record { tables = q.0; walking = q.1.0; contexts = q.1.1 }
 
 pub unresolved-more-requires : goal.unresolved-more-requires
 unresolved-more-requires c =
-    let s = at-start-4 c.before in
-    let a = walked_end s.pre.0 _ _ _ _ _ _ _ (at-rows-branches-2 c.before).rows-branches.ensures in
-    ((s.pre.0, (at-canon-table-3 c.before).canon-table.ensures, (at-declared-table-2 c.before).declared-table.ensures), (a, s.pre.1.used_room, s.pre.1.used_zero))
+    let a = walked_end c.requires.body _ _ _ _ _ _ _ c.rows_branches-walked.ensures in record { body = (c.requires.body, c.canon_table.ensures, c.declared_table.ensures); at_end = (a, c.requires.lent.used_room, c.requires.lent.used_zero) }
 
 pub unused-requires : goal.unused-requires
 unused-requires c =
-    let s = at-start-5 c.before in
-    let a = walked_end s.pre.0 _ _ _ _ _ _ _ (at-rows-branches-3 c.before).rows-branches.ensures in
-    let e = (at-unresolved-1 c.before).unresolved.ensures in (
-      (s.pre.0, (at-declared-table-3 c.before).declared-table.ensures, e.1),
-      (
-        tables-room s.pre.1 _ _ (at-goto-or-label-1 c.before).before.before.heads.given (at-goto-or-label-1 c.before).goto-or-label.given,
+    let a = walked_end c.requires.body _ _ _ _ _ _ _ c.rows_branches-walked.ensures in
+    let e = c.unresolved-more.ensures in record { body = (c.requires.body, c.declared_table.ensures, e.1); pairs_in_bounds = (
+        tables-room c.requires.lent _ _ c.heads-1.given c.goto_or_label-1.given,
         unused-start _ _ _ _ _ a e.0,
-      ),
-    )
+      ); reported =  }
 
 pub shape_of-canonical : goal.shape_of-canonical
 shape_of-canonical c = c.canonical-1.given
@@ -112,5 +59,5 @@ shape_of-used c = c.used-1.given
 
 pub returns : goal.returns
 returns c =
-    walked-answered c.requires.0 _ _ _ _ _ _ _ _ _ _ _ c.rows_branches-walked.ensures
-    c.unresolved-more.ensures.0 c.unused.ensures
+    walked-answered c.requires.body _ _ _ _ _ _ _ _ _ _ _ c.rows_branches-walked.ensures
+    c.unresolved-more.ensures.sheet c.unused.ensures

@@ -5,5 +5,4 @@ use borrow.Author.Rules.{rules}
 use Rattle.label_body.proofs.walk_large.Goals as goal
 
 pub walk_body-requires : goal.walk_body-requires
-walk_body-requires c =
-    (c.requires.0, lent-large c.requires.0 _ _ c.requires.1)
+walk_body-requires c = record { body = c.requires.body; lent = lent-large c.requires.body _ _ c.requires.blank }

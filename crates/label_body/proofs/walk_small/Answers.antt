@@ -5,5 +5,4 @@ use borrow.Author.Rules.{rules}
 use Rattle.label_body.proofs.walk_small.Goals as goal
 
 pub walk_body-requires : goal.walk_body-requires
-walk_body-requires c =
-    (c.requires.0.0, lent-zeros c.requires.0.0 32 128 _ _ c.requires.0.1 c.requires.0.2 c.requires.1)
+walk_body-requires c = record { body = c.requires.body.0; lent = lent-zeros c.requires.body.0 32 128 _ _ c.requires.body.1 c.requires.body.2 c.requires.blank }

@@ -8,7 +8,7 @@ use Rattle.label_rest.proofs.put_unused.Goals as goal
 use Rattle.label_rest.proofs.put_unused.Tie as tie
 
 pub loop-j-init : goal.loop-j-init
-loop-j-init c = nines-start _ _ _ _ _ _ c.requires.1.1.0
+loop-j-init c = nines-start _ _ _ _ _ _ c.requires.reported.0
 
 pub offset_bounds-names-j : goal.offset_bounds-names-j
 offset_bounds-names-j c = omega arith
@@ -21,7 +21,7 @@ offset_bounds-label_rows-c c = omega (arith, c.wide-c.ensures, c.shared_slice_kn
 
 pub bounds-label_rows-c : goal.bounds-label_rows-c
 bounds-label_rows-c c =
-    let p = c.requires in
+    let p = (c.requires.body, (c.requires.sorted, c.requires.reported)) in
     omega (arith, c.wide-c.ensures, name-within-table _ _ p.0.0 p.0.1 p.1.0.1 c.loop-j-test.true)
 
 -- what is known of the name once the word of its label is read
@@ -31,7 +31,7 @@ at_name : (c : tie.After-wide-declared goal.the-invariant-loop-j goal.the-decrea
     c.loop-j.sheet c.loop-j.j
     c.loop-j.at c.wide-c.result c.wide-declared.result
 at_name c =
-    let p = c.requires in
+    let p = (c.requires.body, (c.requires.sorted, c.requires.reported)) in
     record {
       body = p.0.0;
       by_canon = p.0.1;
@@ -66,4 +66,4 @@ pub shape_of-sheet : goal.shape_of-sheet
 shape_of-sheet c = c.loop-j.invariant.1.sheet_length
 
 pub returns : goal.returns
-returns c = let p = c.requires in nines-all _ _ _ _ _ p.0.0 p.1.0.0 p.1.0.1 c.loop-j-test.false c.loop-j.invariant
+returns c = let p = (c.requires.body, (c.requires.sorted, c.requires.reported)) in nines-all _ _ _ _ _ p.0.0 p.1.0.0 p.1.0.1 c.loop-j-test.false c.loop-j.invariant

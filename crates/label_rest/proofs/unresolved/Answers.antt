@@ -12,29 +12,28 @@ use Rattle.label_rest.proofs.unresolved.Goals as goal
 
 pub loop-r-init : goal.loop-r-init
 loop-r-init c =
-    let p = c.requires in
+    let p = (c.requires.body, c.requires.at_end) in
     (omega arith, over-start _ _ _ _ p.1.0 p.1.1 p.1.2, refl)
 
 pub offset_bounds-bindings-r : goal.offset_bounds-bindings-r
-offset_bounds-bindings-r c = omega (arith, c.requires.0.0.most_rows)
+offset_bounds-bindings-r c = omega (arith, c.requires.body.0.most_rows)
 
 pub bounds-bindings-r : goal.bounds-bindings-r
 bounds-bindings-r c =
-    omega (arith, c.requires.1.0.bindings_room)
+    omega (arith, c.requires.at_end.0.bindings_room)
 
 pub unresolved_at-at-requires : goal.unresolved_at-at-requires
 unresolved_at-at-requires c =
-    let p = c.requires in
+    let p = (c.requires.body, c.requires.at_end) in
     let x = c.loop-r.invariant in
-    let h = c.loop-r-test.true in
-    (p.0, ((h, sym c.kind.ensures ∙ c.if-kind-eq-BRANCH.true, word_read _ _ _ _ p.1.0 h), x.1.state))
+    let h = c.loop-r-test.true in record { body = p.0; row_bound = (h, sym c.kind.ensures ∙ c.if-kind-eq-BRANCH.true, word_read _ _ _ _ p.1.0 h); left = x.1.state }
 
 pub loop-r-smaller : goal.loop-r-smaller
 loop-r-smaller c = omega arith
 
 pub loop-r-preserved : goal.loop-r-preserved
 loop-r-preserved c =
-    let p = c.requires in
+    let p = (c.requires.body, c.requires.at_end) in
     let x = c.loop-r.invariant in
     let h = c.loop-r-test.true in
     ⊎_elim
@@ -52,6 +51,5 @@ shape_of-used c = c.loop-r.invariant.2
 
 pub returns : goal.returns
 returns c =
-    let p = c.requires in
-    let x = over-end c.loop-r.invariant.0 c.loop-r-test.false c.loop-r.invariant.1 in
-    (over-reported _ _ _ _ x, over-used _ _ _ _ p.0.0 x)
+    let p = (c.requires.body, c.requires.at_end) in
+    let x = over-end c.loop-r.invariant.0 c.loop-r-test.false c.loop-r.invariant.1 in record { sheet = over-reported _ _ _ _ x; used = over-used _ _ _ _ p.0.0 x }

@@ -13,7 +13,7 @@ use Rattle.label_rest.proofs.unresolved_at.Tie as tie
 
 pub canon_of-c-requires : goal.canon_of-c-requires
 canon_of-c-requires c =
-    let p = c.requires in
+    let p = (c.requires.body, (c.requires.row_bound, c.requires.left)) in
     (p.1.0.0, canon-fits p.0.0 p.0.1 _ p.1.0.0)
 
 -- what is known of the branch once its canonical number is read
@@ -21,7 +21,7 @@ branch : (c : tie.After-canon_of-c) → let a = c.args in
     AtBranch a.rows.now a.pairs.now a.bytes.now a.canonical.now a.label-rows.now a.sheet.now a.used.now
     a.row.0 a.faults c.canon_of-c.result a.bound
 branch c =
-    let p = c.requires in
+    let p = (c.requires.body, (c.requires.row_bound, c.requires.left)) in
     record {
       body = p.0.0;
       by_name = p.0.1;
@@ -70,7 +70,7 @@ bounds-used-c-then-label_rows-c-ne0 c = used-fits (branch c.before.before.before
 
 pub put-requires : goal.put-requires
 put-requires c =
-    (c.requires.1.0.0, sheet-fits (branch c.before.before.before.before.before.before.before.before) c.if-bound-ne0.false (goto-detail c.before.before.before.before.before))
+    (c.requires.row_bound.0, sheet-fits (branch c.before.before.before.before.before.before.before.before) c.if-bound-ne0.false (goto-detail c.before.before.before.before.before))
 
 pub overflow_add-result : goal.overflow_add-result
 overflow_add-result c =
@@ -83,7 +83,7 @@ returns-then-label_rows-c-ne0 c =
 
 pub put-requires-2 : goal.put-requires-2
 put-requires-2 c =
-    (c.requires.1.0.0, sheet-fits (branch c.before.before.before.before.before.before) c.if-bound-ne0.false (goto-detail c.before.before.before))
+    (c.requires.row_bound.0, sheet-fits (branch c.before.before.before.before.before.before) c.if-bound-ne0.false (goto-detail c.before.before.before))
 
 pub overflow_add-result-2 : goal.overflow_add-result-2
 overflow_add-result-2 c =

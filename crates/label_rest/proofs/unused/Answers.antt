@@ -7,15 +7,12 @@ use Rattle.label_rest.proofs.SortedNames.{Names, names-length, spare-length, sor
 use Rattle.label_rest.proofs.unused.Goals as goal
 use Rattle.label_rest.proofs.unused.Tie as tie
 
-abbrev at-start-3 : tie.After-put-unused-arg2 → tie.Start
-at-start-3 c = at-start-1 (at-unused-names-2 c.before)
-
 -- what is known of the names once they are collected
 abbrev collected : (c : tie.After-unused_names-n) → let a = c.args in
     Names a.rows.now a.pairs.now a.bytes.now a.names.now
 collected c =
     record {
-      room = c.requires.1.0.0;
+      room = c.requires.pairs_in_bounds.0;
       n = c.unused_names-n.result;
       l = c.unused_names-n.new.1.1.1.1.1.0;
       same_length = c.unused_names-n.auto.1.1.1.1.1.0;
@@ -28,12 +25,11 @@ pub slice_bounds-sort-end-2 : goal.slice_bounds-sort-end-2
 slice_bounds-sort-end-2 c = omega (arith, names-length (collected c.before.before.before.before))
 
 pub slice_bounds-sort-end-4 : goal.slice_bounds-sort-end-4
-slice_bounds-sort-end-4 c = omega (arith, spare-length (collected c.before.before.before.before.before) c.args.spare.now c.requires.1.0.1)
+slice_bounds-sort-end-4 c = omega (arith, spare-length (collected c.before.before.before.before.before) c.args.spare.now c.requires.pairs_in_bounds.1)
 
 pub sort-requires : goal.sort-requires
 sort-requires c =
-    let x = collected c.before.before.before.before.before in
-    (c.requires.0.0.names, omega (arith, names-length x, spare-length x c.args.spare.now c.requires.1.0.1))
+    let x = collected c.before.before.before.before.before in record { bytes_value = c.requires.body.0.names; spare_len = omega (arith, names-length x, spare-length x c.args.spare.now c.requires.pairs_in_bounds.1) }
 
 pub slice_bounds-put_unused-end-2 : goal.slice_bounds-put_unused-end-2
 slice_bounds-put_unused-end-2 c =
@@ -42,8 +38,7 @@ slice_bounds-put_unused-end-2 c =
 
 pub put_unused-requires : goal.put_unused-requires
 put_unused-requires c =
-    let p = (at-start-3 c.before).requires in
-    ((p.0.0, p.0.1), (sorted-names (collected c.before.before.before.before.before.before.before.before.before.before.before) c.sort.last.1.1.0 c.sort.kept.1.1.0 c.sort.ensures, p.1.1))
+    let p = (c.requires.body, (c.requires.pairs_in_bounds, c.requires.reported)) in record { body = (p.0.0, p.0.1); sorted = sorted-names (collected c.before.before.before.before.before.before.before.before.before.before.before) c.sort.last.1.1.0 c.sort.kept.1.1.0 c.sort.ensures; reported = p.1.1 }
 
 pub shape_of-names : goal.shape_of-names
 shape_of-names c = search rules

@@ -10,35 +10,35 @@ pub loop-c-init : goal.loop-c-init
 loop-c-init c = collected-start _ _ _ _
 
 pub offset_bounds-label_rows-c : goal.offset_bounds-label_rows-c
-offset_bounds-label_rows-c c = omega (arith, pair-most c.requires.0.0)
+offset_bounds-label_rows-c c = omega (arith, pair-most c.requires.body.0)
 
 pub bounds-label_rows-c : goal.bounds-label_rows-c
-bounds-label_rows-c c = omega (arith, c.requires.0.1.room)
+bounds-label_rows-c c = omega (arith, c.requires.body.1.room)
 
 pub bounds-used-c : goal.bounds-used-c
-bounds-used-c c = omega (arith, c.requires.0.2.room)
+bounds-used-c c = omega (arith, c.requires.body.2.room)
 
 pub overflow_cast-names : goal.overflow_cast-names
-overflow_cast-names c = omega (arith, pair-most c.requires.0.0)
+overflow_cast-names c = omega (arith, pair-most c.requires.body.0)
 
 pub offset_bounds-names-n : goal.offset_bounds-names-n
-offset_bounds-names-n c = omega (arith, pair-most c.requires.0.0)
+offset_bounds-names-n c = omega (arith, pair-most c.requires.body.0)
 
 pub bounds-names-n : goal.bounds-names-n
 bounds-names-n c = omega arith
 
 pub overflow_add-n : goal.overflow_add-n
-overflow_add-n c = omega (arith, pair-most c.requires.0.0)
+overflow_add-n c = omega (arith, pair-most c.requires.body.0)
 
 pub overflow_add-c : goal.overflow_add-c
-overflow_add-c c = omega (arith, pair-most c.requires.0.0)
+overflow_add-c c = omega (arith, pair-most c.requires.body.0)
 
 pub loop-c-smaller : goal.loop-c-smaller
 loop-c-smaller c = omega arith
 
 pub loop-c-preserved : goal.loop-c-preserved
 loop-c-preserved c =
-    let p = c.requires in
+    let p = (c.requires.body, c.requires.pairs_in_bounds) in
     let h = c.loop-c-test.true in
     let x = c.loop-c.invariant in
     ⊎_elim
@@ -52,4 +52,4 @@ pub shape_of-names : goal.shape_of-names
 shape_of-names c = c.loop-c.invariant.same_length
 
 pub returns : goal.returns
-returns c = let p = c.requires in collected-end p.0.0 p.1 c.loop-c-test.false c.loop-c.invariant
+returns c = let p = (c.requires.body, c.requires.pairs_in_bounds) in collected-end p.0.0 p.1 c.loop-c-test.false c.loop-c.invariant

@@ -8,55 +8,55 @@ use Rattle.label_walk.proofs.current_label.Goals as goal
 
 pub returns-then-list-eq0 : goal.returns-then-list-eq0
 returns-then-list-eq0 c =
-    let i = c.requires.1.1 in
-    outside c.requires.0 i.0 i.1 c.requires.1.0 _ c.wide-list.ensures c.if-list-eq0.true
+    let i = c.requires.row_bound in
+    outside c.requires.listing i.0 i.1 c.requires.list_table _ c.wide-list.ensures c.if-list-eq0.true
 
 pub overflow_sub-label : goal.overflow_sub-label
 overflow_sub-label c =
-    let i = c.requires.1.1 in
-    omega (arith, (block-list c.requires.0 i.0 i.1 c.requires.1.0 _ c.wide-list.ensures c.if-list-eq0.false).0)
+    let i = c.requires.row_bound in
+    omega (arith, (block-list c.requires.listing i.0 i.1 c.requires.list_table _ c.wide-list.ensures c.if-list-eq0.false).0)
 
 pub offset_bounds-latest_labels-list : goal.offset_bounds-latest_labels-list
 offset_bounds-latest_labels-list c =
-    let i = c.requires.1.1 in
-    omega (arith, (block-list c.requires.0 i.0 i.1 c.requires.1.0 _ c.wide-list.ensures c.if-list-eq0.false).1, c.requires.0.body.most_rows)
+    let i = c.requires.row_bound in
+    omega (arith, (block-list c.requires.listing i.0 i.1 c.requires.list_table _ c.wide-list.ensures c.if-list-eq0.false).1, c.requires.listing.body.most_rows)
 
 pub bounds-latest_labels-list : goal.bounds-latest_labels-list
 bounds-latest_labels-list c =
-    let i = c.requires.1.1 in
-    omega (arith, (block-list c.requires.0 i.0 i.1 c.requires.1.0 _ c.wide-list.ensures c.if-list-eq0.false).2)
+    let i = c.requires.row_bound in
+    omega (arith, (block-list c.requires.listing i.0 i.1 c.requires.list_table _ c.wide-list.ensures c.if-list-eq0.false).2)
 
 pub returns-then-label-eq0 : goal.returns-then-label-eq0
 returns-then-label-eq0 c =
-    let i = c.requires.1.1 in
-    unlabelled-block c.requires.0 i.0 i.1 c.requires.1.0 _ c.wide-list.ensures c.if-list-eq0.false _ refl c.if-label-eq0.true
+    let i = c.requires.row_bound in
+    unlabelled-block c.requires.listing i.0 i.1 c.requires.list_table _ c.wide-list.ensures c.if-list-eq0.false _ refl c.if-label-eq0.true
 
 pub size-requires : goal.size-requires
 size-requires c =
-    let i = c.requires.1.1 in
-    label-row c.requires.0 i.0 i.1 c.requires.1.0 _ c.wide-list.ensures c.if-list-eq0.false _ c.wide-t.ensures
+    let i = c.requires.row_bound in
+    label-row c.requires.listing i.0 i.1 c.requires.list_table _ c.wide-list.ensures c.if-list-eq0.false _ c.wide-t.ensures
     (λ z. c.if-label-eq0.false (sym c.wide-t.ensures ∙ z))
 
 pub overflow_add-t : goal.overflow_add-t
 overflow_add-t c =
-    let i = c.requires.1.1 in
+    let i = c.requires.row_bound in
     omega (
       arith,
-      label-fits c.requires.0 i.0 i.1 c.requires.1.0 _ c.wide-list.ensures c.if-list-eq0.false _
+      label-fits c.requires.listing i.0 i.1 c.requires.list_table _ c.wide-list.ensures c.if-list-eq0.false _
           c.wide-t.ensures (λ z. c.if-label-eq0.false (sym c.wide-t.ensures ∙ z)) _ c.size.ensures,
     )
 
 pub returns-then-t-size : goal.returns-then-t-size
 returns-then-t-size c =
-    let i = c.requires.1.1 in
-    ended c.requires.0 i.0 i.1 c.requires.1.0 _ c.wide-list.ensures c.if-list-eq0.false _
+    let i = c.requires.row_bound in
+    ended c.requires.listing i.0 i.1 c.requires.list_table _ c.wide-list.ensures c.if-list-eq0.false _
     c.wide-t.ensures (λ z. c.if-label-eq0.false (sym c.wide-t.ensures ∙ z)) _
     c.size.ensures (omega (arith, c.if-t-size.true))
 
 pub returns : goal.returns
 returns c =
-    let i = c.requires.1.1 in
+    let i = c.requires.row_bound in
     sym c.wide-t.ensures
-    ∙ current c.requires.0 i.0 i.1 c.requires.1.0 _ c.wide-list.ensures c.if-list-eq0.false _
+    ∙ current c.requires.listing i.0 i.1 c.requires.list_table _ c.wide-list.ensures c.if-list-eq0.false _
     c.wide-t.ensures (λ z. c.if-label-eq0.false (sym c.wide-t.ensures ∙ z)) _
     c.size.ensures c.if-t-size.false

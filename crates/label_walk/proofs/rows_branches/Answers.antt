@@ -8,23 +8,15 @@ use Rattle.lists.proofs.Opened.{open-found, open_none, ends-none}
 use Rattle.label_walk.proofs.ListRows.{lists-next, tables-next}
 use Rattle.label_walk.proofs.WalkSteps.{Turn, turn-first, turn-next, turn_last}
 use Rattle.label_walk.proofs.rows_branches.Goals as goal
-use Rattle.label_walk.proofs.rows_branches.Tie as tie
-
-abbrev at-list-at-1 : tie.After-stmt-branches-arg7 goal.the-invariant-loop-r goal.the-decreases-loop-r → tie.After-list_at-here goal.the-invariant-loop-r goal.the-decreases-loop-r
-at-list-at-1 c = c.before.before.before.before.before.before.before.before
-
-abbrev at-start-3 : tie.After-stmt-branches-arg7 goal.the-invariant-loop-r goal.the-decreases-loop-r → tie.Start goal.the-invariant-loop-r goal.the-decreases-loop-r
-at-start-3 c = at-start-1 (at-list-at-1 c).before.before.before.before
 
 pub loop-r-init : goal.loop-r-init
 loop-r-init c =
-    (turn-first c.requires.1.0 c.requires.1.1, refl, (open_none _, ends-none c.args.rows.now _), c.requires.0.listed)
+    (turn-first c.requires.walking c.requires.contexts, refl, (open_none _, ends-none c.args.rows.now _), c.requires.tables.listed)
 
 pub list_at-here-requires : goal.list_at-here-requires
 list_at-here-requires c =
-    let t = c.requires.0 in
-    let i = c.loop-r.invariant in
-    ((t.body.sized, i.2, i.3), (c.loop-r-test.true, omega (arith, t.lists_room, i.1)))
+    let t = c.requires.tables in
+    let i = c.loop-r.invariant in record { sized = (t.body.sized, i.2, i.3); r_bound = (c.loop-r-test.true, omega (arith, t.lists_room, i.1)) }
 
 pub overflow_cast-lists : goal.overflow_cast-lists
 overflow_cast-lists c =
@@ -32,25 +24,23 @@ overflow_cast-lists c =
       arith,
       (open-found _ _ _ c.list_at-here.ensures.0).before,
       c.loop-r-test.true,
-      c.requires.0.body.most_rows,
+      c.requires.tables.body.most_rows,
     )
 
 pub offset_bounds-lists-r : goal.offset_bounds-lists-r
-offset_bounds-lists-r c = omega (arith, c.loop-r-test.true, c.requires.0.body.most_rows)
+offset_bounds-lists-r c = omega (arith, c.loop-r-test.true, c.requires.tables.body.most_rows)
 
 pub bounds-lists-r : goal.bounds-lists-r
-bounds-lists-r c = omega (arith, c.loop-r-test.true, c.loop-r.invariant.1, c.requires.0.lists_room)
+bounds-lists-r c = omega (arith, c.loop-r-test.true, c.loop-r.invariant.1, c.requires.tables.lists_room)
 
 pub stmt_branches-step-requires : goal.stmt_branches-step-requires
 stmt_branches-step-requires c =
-    let l = (at-list-at-1 c.before).before.before.before.loop in
-    let i = l.inv in
-    let h = (at-list-at-1 c.before).before.before.loop-test.true in
-    let n = (at-list-at-1 c.before).list_at.ensures in
-    (tables-next l.lists _ l.r _ (at-start-3 c.before).requires.0 i.1 h n.0 i.3, (i.0.so_far.state, (i.0.contexts, (h, n))))
+    let i = c.loop-r.invariant in
+    let h = c.loop-r-test.true in
+    let n = c.list_at-here.ensures in record { tables = tables-next c.loop-r.lists _ c.loop-r.r _ c.requires.tables i.1 h n.0 i.3; walking = i.0.so_far.state; contexts_2 = i.0.contexts; row_bound = (h, n) }
 
 pub overflow_add-r : goal.overflow_add-r
-overflow_add-r c = omega (arith, c.requires.0.body.most_rows, c.loop-r-test.true)
+overflow_add-r c = omega (arith, c.requires.tables.body.most_rows, c.loop-r-test.true)
 
 pub loop-r-smaller : goal.loop-r-smaller
 loop-r-smaller c = omega (arith, c.loop-r-test.true)
@@ -59,7 +49,7 @@ pub loop-r-preserved : goal.loop-r-preserved
 loop-r-preserved c =
     let i = c.loop-r.invariant in
     let y = c.stmt_branches-step.ensures in
-    let n = lists-next c.args.rows.now c.loop-r.lists c.args.lists.now c.loop-r.r _ i.1 c.requires.0.lists_room
+    let n = lists-next c.args.rows.now c.loop-r.lists c.args.lists.now c.loop-r.r _ i.1 c.requires.tables.lists_room
     c.loop-r-test.true c.list_at-here.ensures.0 i.3 in (
       turn-next i.0 y.0 y.1.0 c.heads-1.given c.goto_or_label-1.given
           c.latest_decls-1.given c.latest_labels-1.given,

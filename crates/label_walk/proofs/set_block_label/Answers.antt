@@ -9,12 +9,11 @@ use Rattle.label_walk.proofs.set_block_label.Goals as goal
 
 pub current_label-requires : goal.current_label-requires
 current_label-requires c =
-    let i = c.requires.1.1 in
-    (c.requires.0, (c.requires.1.0, (i.0, i.1)))
+    let i = c.requires.row_bound in record { listing = c.requires.listing; list_table = c.requires.list_table; row_bound = (i.0, i.1) }
 
 pub offset_bounds-goto_or_label-r : goal.offset_bounds-goto_or_label-r
 offset_bounds-goto_or_label-r c =
-    omega (arith, c.requires.1.1.0, c.requires.0.body.most_rows)
+    omega (arith, c.requires.row_bound.0, c.requires.listing.body.most_rows)
 
 pub returns : goal.returns
 returns c =

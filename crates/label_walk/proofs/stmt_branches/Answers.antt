@@ -4,27 +4,12 @@ use mathlib.Core.Path.{refl}
 use mathlib.Core.Logic.{inl, inr}
 use Rattle.label_walk.proofs.RowSteps.{labeled-asks, labeled-gives, branch-asks, branch-gives, passes, plain-asks, plain-gives}
 use Rattle.label_walk.proofs.stmt_branches.Goals as goal
-use Rattle.label_walk.proofs.stmt_branches.Tie as tie
-
-abbrev at-kind-1 : tie.After-plain-branches-arg3 → tie.After-kind
-at-kind-1 c = c.before.before.before.before
-
-abbrev at-start-2 : tie.After-plain-branches-arg3 → tie.Start
-at-start-2 c = at-start-1 (at-kind-1 c).before
-
-abbrev at-match-2 : tie.After-labeled-branches-arg6 → tie.In-3
-at-match-2 c = c.before.before.before.before.before.before
-
-abbrev at-start-4 : tie.After-labeled-branches-arg6 → tie.Start
-at-start-4 c = at-start-1 (at-match-2 c).before.before
 
 pub kind-requires : goal.kind-requires
-kind-requires c = c.requires.1.1.1.0
+kind-requires c = c.requires.row_bound.0
 
 pub labeled_branches-more-requires : goal.labeled_branches-more-requires
-labeled_branches-more-requires c =
-    let s = at-start-4 c.before in
-    labeled-asks s.pre.0 _ s.pre.1.1.1.0 s.pre.1.0 s.pre.1.1.0 _ (at-match-2 c.before).before.kind.ensures (at-match-2 c.before).match.keys1
+labeled_branches-more-requires c = let q = labeled-asks c.requires.tables _ c.requires.row_bound.0 c.requires.walking c.requires.contexts_2 _ c.kind.ensures c.in-3.is in record { tables = q.0; walking = q.1.0; contexts = q.1.1.0; row_bound = q.1.1.1 }
 
 pub shape_of-sheet-in-3 : goal.shape_of-sheet-in-3
 shape_of-sheet-in-3 c = c.sheet-1.given
@@ -48,13 +33,11 @@ pub returns-in-3 : goal.returns-in-3
 returns-in-3 c =
     let k = c.in-3.is in
     let e = c.kind.ensures in
-    let g = labeled-gives c.requires.0 _ c.requires.1.1.1.0 c.requires.1.0 c.requires.1.1.0 _ e k
-    c.labeled_branches-more.ensures in
-    (g.0, (g.1, passes c.requires.0 _ c.requires.1.1.1.0 c.requires.1.0 c.requires.1.1.0 _ e (inl k) c.requires.1.1.1.1))
+    let g = labeled-gives c.requires.tables _ c.requires.row_bound.0 c.requires.walking c.requires.contexts_2 _ e k
+    c.labeled_branches-more.ensures in record { walked = g.0; contexts = g.1; around = passes c.requires.tables _ c.requires.row_bound.0 c.requires.walking c.requires.contexts_2 _ e (inl k) c.requires.row_bound.1 }
 
 pub jump_branches-more-requires : goal.jump_branches-more-requires
-jump_branches-more-requires c =
-    branch-asks c.requires.0 _ c.requires.1.1.1.0 c.requires.1.0 c.requires.1.1.0 _ c.kind.ensures c.in-11.is
+jump_branches-more-requires c = let q = branch-asks c.requires.tables _ c.requires.row_bound.0 c.requires.walking c.requires.contexts_2 _ c.kind.ensures c.in-11.is in record { tables = q.0; walking = q.1.0; row_bound = q.1.1 }
 
 pub shape_of-sheet-in-11 : goal.shape_of-sheet-in-11
 shape_of-sheet-in-11 c = c.sheet-in-11-1.given
@@ -72,19 +55,15 @@ pub returns-in-11 : goal.returns-in-11
 returns-in-11 c =
     let k = c.in-11.is in
     let e = c.kind.ensures in
-    let g = branch-gives c.requires.0 _ c.requires.1.1.1.0 c.requires.1.0 c.requires.1.1.0 _ e k
-    c.jump_branches-more.ensures in
-    (g.0, (g.1, passes c.requires.0 _ c.requires.1.1.1.0 c.requires.1.0 c.requires.1.1.0 _ e (inr k) c.requires.1.1.1.1))
+    let g = branch-gives c.requires.tables _ c.requires.row_bound.0 c.requires.walking c.requires.contexts_2 _ e k
+    c.jump_branches-more.ensures in record { walked = g.0; contexts = g.1; around = passes c.requires.tables _ c.requires.row_bound.0 c.requires.walking c.requires.contexts_2 _ e (inr k) c.requires.row_bound.1 }
 
 pub plain_branches-requires : goal.plain_branches-requires
-plain_branches-requires c =
-    let s = at-start-2 c.before in
-    plain-asks s.pre.0 _ s.pre.1.1.1.0 s.pre.1.0 s.pre.1.1.0 _ (at-kind-1 c.before).kind.ensures
+plain_branches-requires c = let q = plain-asks c.requires.tables _ c.requires.row_bound.0 c.requires.walking c.requires.contexts_2 _ c.kind.ensures in record { listing = q.0; contexts = q.1.0; row_bound = q.1.1 }
 
 pub list_after-after-requires : goal.list_after-after-requires
 list_after-after-requires c =
-    let b = c.requires.0.body in
-    ((b.sized, b.details, c.requires.1.1.1.0, b.most_rows), c.requires.1.1.1.1)
+    let b = c.requires.tables.body in record { sized = (b.sized, b.details, c.requires.row_bound.0, b.most_rows); list_around = c.requires.row_bound.1 }
 
 pub shape_of-goto_or_label-in_default : goal.shape_of-goto_or_label-in_default
 shape_of-goto_or_label-in_default c = c.goto_or_label-in_default-1.given
@@ -97,6 +76,5 @@ shape_of-latest_labels-in_default c = refl
 
 pub returns-in_default : goal.returns-in_default
 returns-in_default c =
-    let g = plain-gives c.requires.0 _ c.requires.1.1.1.0 c.requires.1.0 c.requires.1.1.0 _ c.kind.ensures
-    c.in_default.rest c.plain_branches.ensures in
-    (g.0, (g.1, c.list_after-after.ensures))
+    let g = plain-gives c.requires.tables _ c.requires.row_bound.0 c.requires.walking c.requires.contexts_2 _ c.kind.ensures
+    c.in_default.rest c.plain_branches.ensures in record { walked = g.0; contexts = g.1; around = c.list_after-after.ensures }

@@ -16,10 +16,10 @@ last-holder : (k : ℕ) → (k ≡ 12 → ⊥) → (k ≡ 14 → ⊥) → eqb k 
 last-holder k a b = rw (ne_eqb k 12 a, ne_eqb k 14 b, or-false)
 
 pub returns-then-kind-eq-BLOCK : goal.returns-then-kind-eq-BLOCK
-returns-then-kind-eq-BLOCK c = sym (ap (among holders) c.if-kind-eq-BLOCK.true) ∙ kind-items _ d a
+returns-then-kind-eq-BLOCK c d a = sym (ap (among holders) c.if-kind-eq-BLOCK.true) ∙ kind-items _ d a
 
 pub returns-then-kind-eq-CASE : goal.returns-then-kind-eq-CASE
-returns-then-kind-eq-CASE c = sym (ap (among holders) c.if-kind-eq-CASE.true) ∙ kind-items _ d a
+returns-then-kind-eq-CASE c d a = sym (ap (among holders) c.if-kind-eq-CASE.true) ∙ kind-items _ d a
 
 pub returns : goal.returns
-returns c = last-holder _ c.if-kind-eq-BLOCK.false c.if-kind-eq-CASE.false ∙ kind-items _ d a
+returns-then-kind-eq-BLOCK c d a = last-holder _ c.if-kind-eq-BLOCK.false c.if-kind-eq-CASE.false ∙ kind-items _ d a

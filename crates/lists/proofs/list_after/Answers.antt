@@ -15,22 +15,22 @@ use Rattle.lists.proofs.list_after.Tie as tie
 -- what `holds_items` said of the row's class
 own : (c : tie.After-holds_items) → c.holds_items.result ≡ holds_items (class c.args.rows.now c.args.r)
 own c =
-    by-words holds_items _ _ _ _ (own-items _ c.args.r) c.kind.ensures (c.requires.0.1 c.args.r c.requires.0.2) c.holds_items.ensures
+    by-words holds_items _ _ _ _ (own-items _ c.args.r) c.kind.ensures (c.requires.sized.1 c.args.r c.requires.sized.2) c.holds_items.ensures
 
 pub returns-then-not-holds_items : goal.returns-then-not-holds_items
 returns-then-not-holds_items c =
-    let h = c.requires.1 in
+    let h = c.requires.list_around in
     (open_more _ _ _ _ (own c.before.before) h.0 _ (inr (not-true _ c.if-not-holds_items.true, refl)), h.1)
 
 pub overflow_add-end : goal.overflow_add-end
-overflow_add-end c = omega (arith, c.requires.0, c.requires.0.0.within c.args.r c.requires.0.2, c.size.ensures)
+overflow_add-end c = omega (arith, c.requires.sized, c.requires.sized.0.within c.args.r c.requires.sized.2, c.size.ensures)
 
 pub overflow_add-result : goal.overflow_add-result
-overflow_add-result c = omega (arith, c.requires.0)
+overflow_add-result c = omega (arith, c.requires.sized)
 
 pub returns : goal.returns
 returns c =
     (
-      open_more _ _ _ _ (own c.before.before.before) c.requires.1.0 _ (inl (not-false _ c.if-not-holds_items.false, refl)),
+      open_more _ _ _ _ (own c.before.before.before) c.requires.list_around.0 _ (inl (not-false _ c.if-not-holds_items.false, refl)),
       ends-here c.args.rows.now _ _ c.size.ensures,
     )

@@ -6,15 +6,15 @@ use Rattle.lists.proofs.list_at.Goals as goal
 
 pub returns-then-r-before : goal.returns-then-r-before
 returns-then-r-before c =
-    let h = c.requires.0.1 in
+    let h = c.requires.sized.1 in
     (open_kept _ _ _ h.0 _ h.1 c.if-r-before.true, h.1)
 
 pub still_open-list-requires : goal.still_open-list-requires
-still_open-list-requires c = let p = c.requires in ((p.0.0, p.0.1.0, p.0.2), p.1)
+still_open-list-requires c = let p = (c.requires.sized, c.requires.r_bound) in record { sized = (p.0.0, p.0.1.0, p.0.2); r_bound = p.1 }
 
 pub end_of-end-requires : goal.end_of-end-requires
 end_of-end-requires c =
-    let p = c.requires in (p.0.0, omega (arith, p.1, (open-found _ _ _ c.still_open-list.ensures).before))
+    let p = (c.requires.sized, c.requires.r_bound) in (p.0.0, omega (arith, p.1, (open-found _ _ _ c.still_open-list.ensures).before))
 
 pub returns : goal.returns
 returns c = (c.still_open-list.ensures, c.end_of-end.ensures)

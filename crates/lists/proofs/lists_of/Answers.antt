@@ -6,20 +6,14 @@ use lib.ListN.{length, length-set}
 use Rattle.lists.specs.Listed.{InHand, ListedBelow}
 use Rattle.lists.proofs.Opened.{open-found, open_none, ends-none, listed_more}
 use Rattle.lists.proofs.lists_of.Goals as goal
-use Rattle.lists.proofs.lists_of.Tie as tie
 
 pub loop-r-init : goal.loop-r-init
 loop-r-init c = (omega arith, refl, (open_none _, ends-none c.args.rows.now _), below_none _)
 
--- ---- points of the code that the answers below go back to
-abbrev at-start-1 : tie.After-list-at-arg goal.the-invariant-loop-r goal.the-decreases-loop-r → tie.Start goal.the-invariant-loop-r goal.the-decreases-loop-r
-at-start-1 c = c.before.before.before.before.before
-
 pub list_at-around-requires : goal.list_at-around-requires
 list_at-around-requires c =
-    let p = (at-start-1 c.before).requires in
-    let v = c.loop-r.invariant in
-    ((p.0.0, v.2, v.3), (c.loop-r-test.true, omega (arith, p.1, v.1)))
+    let p = (c.requires.sized, c.requires.rows_bound) in
+    let v = c.loop-r.invariant in record { sized = (p.0.0, v.2, v.3); r_bound = (c.loop-r-test.true, omega (arith, p.1, v.1)) }
 
 pub overflow_cast-lists : goal.overflow_cast-lists
 overflow_cast-lists c =
@@ -27,19 +21,18 @@ overflow_cast-lists c =
       arith,
       (open-found _ _ _ c.list_at-around.ensures.0).before,
       c.loop-r-test.true,
-      (at-start-1 c.before.before.before).pre.1,
+      c.requires.rows_bound,
     )
 
 pub offset_bounds-lists-r : goal.offset_bounds-lists-r
 offset_bounds-lists-r c = omega arith
 
 pub bounds-lists-r : goal.bounds-lists-r
-bounds-lists-r c = omega (arith, c.loop-r.invariant.1, (at-start-1 c.before.before.before).pre.1)
+bounds-lists-r c = omega (arith, c.loop-r.invariant.1, c.requires.rows_bound)
 
 pub list_after-around-requires : goal.list_after-around-requires
 list_after-around-requires c =
-    let p = (at-start-1 c.before.before.before).pre in
-    ((p.0.0, p.0.1, c.loop-r-test.true, p.1.0), c.list_at-around.ensures)
+    let p = (c.requires.sized, c.requires.rows_bound) in record { sized = (p.0.0, p.0.1, c.loop-r-test.true, p.1.0); list_around = c.list_at-around.ensures }
 
 pub overflow_add-r : goal.overflow_add-r
 overflow_add-r c = omega arith
@@ -49,7 +42,7 @@ loop-r-smaller c = omega arith
 
 pub loop-r-preserved : goal.loop-r-preserved
 loop-r-preserved c =
-    let p = (at-start-1 c.before.before.before.before).pre in
+    let p = (c.requires.sized, c.requires.rows_bound) in
     let here : c.loop-r.r < length c.loop-r.lists = omega (arith, p.1, c.loop-r.invariant.1, c.loop-r-test.true) in (
       omega (arith, c.loop-r-test.true),
       simp length-set c.loop-r.invariant.1,
@@ -61,4 +54,4 @@ pub shape_of-lists : goal.shape_of-lists
 shape_of-lists c = omega arith
 
 pub returns : goal.returns
-returns c = c.loop-r.invariant.3 k (omega (arith, c.loop-r-test.false))
+returns c k h = c.loop-r.invariant.3 k (omega (arith, c.loop-r-test.false))

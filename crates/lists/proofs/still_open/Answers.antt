@@ -8,7 +8,7 @@ use Rattle.lists.proofs.still_open.Goals as goal
 use Rattle.lists.proofs.still_open.Tie as tie
 
 pub loop-open-init : goal.loop-open-init
-loop-open-init c = c.requires.0.1
+loop-open-init c = c.requires.sized.1
 
 pub overflow_sub-row : goal.overflow_sub-row
 overflow_sub-row c = omega arith
@@ -25,13 +25,13 @@ end_is c = ap (λ (n : ℕ). c.loop-open.«open» - 1 + n) c.size.ensures
 next : (c : tie.After-wide-open goal.the-invariant-loop-open goal.the-decreases-loop-open) →
     let a = c.args in Open a.rows.now c.wide-open.result a.r × (c.wide-open.result < c.loop-open.«open»)
 next c =
-    let p = c.requires in
+    let p = (c.requires.sized, c.requires.r_bound) in
     open-outer _ _ _ c.loop-open.invariant _ c.loop-open-test.true (omega (arith, end_is c.before.before.before))
     (c.wide-open.ensures ∙ p.0.2 (c.loop-open.«open» - 1) (omega arith))
 
 pub overflow_add-row : goal.overflow_add-row
 overflow_add-row c =
-    omega (arith, c.requires.0.0.within (c.loop-open.«open» - 1) (omega arith))
+    omega (arith, c.requires.sized.0.within (c.loop-open.«open» - 1) (omega arith))
 
 pub returns-then-r-row : goal.returns-then-r-row
 returns-then-r-row c =

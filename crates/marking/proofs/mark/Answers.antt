@@ -12,7 +12,7 @@ marks_of-requires c =
     sym c.refusal_of.ensures ∙ ap given c.in-WellFormed.is
 
 pub returns-in-Refused : goal.returns-in-Refused
-returns-in-Refused c = refusal-marked _ _ _ _ _ _ (sym (ap given c.in-Refused.is) ∙ c.refusal_of.ensures)
+returns-in-Refused c = let q = refusal-marked _ _ _ _ _ _ (sym (ap given c.in-Refused.is) ∙ c.refusal_of.ensures) in record { answer = q.0; sheet = q.1.0; bindings = q.1.1 }
 
 pub mark_spec : {M : Type 1} → statement M
 mark_spec =

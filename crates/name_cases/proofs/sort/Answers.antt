@@ -4,4 +4,4 @@ use Rattle.std.proofs.Common.{sym, ◌∙◌, rules}
 use Rattle.name_cases.proofs.sort.Goals as goal
 
 pub sort-requires : goal.sort-requires
-sort-requires c = (sym c.names_ok.ensures ∙ c.if-names_ok.true, search rules)
+sort-requires c = record { bytes_value = sym c.names_ok.ensures ∙ c.if-names_ok.true; spare_len = search rules }

@@ -16,8 +16,7 @@ loop-r-init c = (simp length-set c.requires.1, refl, parents-start c.requires.0.
 
 pub write_children-requires : goal.write_children-requires
 write_children-requires c =
-    let v = c.loop-r.invariant in
-    ((c.requires.0, c.loop-r-test.true, v.0), v.2)
+    let v = c.loop-r.invariant in record { formed = (c.requires.0, c.loop-r-test.true, v.0); parents_to = v.2 }
 
 pub loop-r-preserved : goal.loop-r-preserved
 loop-r-preserved c = (search rules, search rules, c.write_children.ensures)

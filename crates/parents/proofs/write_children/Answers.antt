@@ -11,25 +11,25 @@ use Rattle.parents.proofs.write_children.Tie as tie
 -- the child of a turn is a row
 turn : (c : tie.In-loop-c goal.the-invariant-loop-c goal.the-decreases-loop-c) → let w = c.args.rows.now in 
     (c.loop-c.c < row_count w) × (0 < size w c.loop-c.c) × (end w c.loop-c.c ≤ 2000)
-turn c = inside c.requires.0.0.2 c.args.r _ c.requires.0.1 (omega (arith, c.loop-c-test.true, c.loop-c.invariant.0))
+turn c = inside c.requires.formed.0.2 c.args.r _ c.requires.formed.1 (omega (arith, c.loop-c-test.true, c.loop-c.invariant.0))
 
 pub overflow_add-end : goal.overflow_add-end
 overflow_add-end c =
-    let body = c.requires.0.0.2 in
-    omega (arith, c.size.ensures, body.sized.within _ c.requires.0.1, body.most_rows)
+    let body = c.requires.formed.0.2 in
+    omega (arith, c.size.ensures, body.sized.within _ c.requires.formed.1, body.most_rows)
 
 pub loop-c-init : goal.loop-c-init
 loop-c-init c =
-    (ap (λ (n : ℕ). c.args.r + n) c.size.ensures, refl, written_start c.requires.0.0.2 _ c.requires.0.1 _ c.requires.1)
+    (ap (λ (n : ℕ). c.args.r + n) c.size.ensures, refl, written_start c.requires.formed.0.2 _ c.requires.formed.1 _ c.requires.parents_to)
 
 pub overflow_cast-parents : goal.overflow_cast-parents
-overflow_cast-parents c = omega (arith, c.requires.0.1, c.requires.0.0.2.most_rows)
+overflow_cast-parents c = omega (arith, c.requires.formed.1, c.requires.formed.0.2.most_rows)
 
 pub offset_bounds-parents-c : goal.offset_bounds-parents-c
 offset_bounds-parents-c c = omega (arith, turn c.before)
 
 pub bounds-parents-c : goal.bounds-parents-c
-bounds-parents-c c = omega (arith, turn c.before, c.loop-c.invariant.1, c.requires.0.2)
+bounds-parents-c c = omega (arith, turn c.before, c.loop-c.invariant.1, c.requires.formed.2)
 
 pub size-c-requires : goal.size-c-requires
 size-c-requires c = (turn c.before).0
@@ -43,12 +43,12 @@ loop-c-smaller c = omega (arith, turn c.before.before, c.size-c.ensures, c.loop-
 pub loop-c-preserved : goal.loop-c-preserved
 loop-c-preserved c =
     let v = c.loop-c.invariant in
-    let here : c.loop-c.c < length c.loop-c.parents = omega (arith, turn c.before.before, v.1, c.requires.0.2) in
+    let here : c.loop-c.c < length c.loop-c.parents = omega (arith, turn c.before.before, v.1, c.requires.formed.2) in
     let next : c.loop-c.c + c.size-c.result ≡ end c.args.rows.now c.loop-c.c = ap (λ (n : ℕ). c.loop-c.c + n) c.size-c.ensures in
     let below : c.loop-c.c < end c.args.rows.now c.args.r = omega (arith, c.loop-c-test.true, v.0) in
-    (v.0, simp length-set v.1, rw next (written-more c.requires.0.0.2 _ c.requires.0.1 c.loop-c.parents c.loop-c.c here v.2 below))
+    (v.0, simp length-set v.1, rw next (written-more c.requires.formed.0.2 _ c.requires.formed.1 c.loop-c.parents c.loop-c.c here v.2 below))
 
 pub returns : goal.returns
 returns c =
     let v = c.loop-c.invariant in
-    written-end c.requires.0.0.2 _ c.requires.0.1 _ _ v.2 (omega (arith, c.loop-c-test.false, v.0))
+    written-end c.requires.formed.0.2 _ c.requires.formed.1 _ _ v.2 (omega (arith, c.loop-c-test.false, v.0))

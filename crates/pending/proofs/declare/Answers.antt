@@ -26,21 +26,21 @@ returns-then-declared-r c =
 
 pub put-requires : goal.put-requires
 put-requires c =
-    let h = c.requires.1.1 (λ e. c.if-declared-r.false (omega (arith, e))) in
-    (c.requires.0.0, omega arith)
+    let h = c.requires.faults_in_bounds (λ e. c.if-declared-r.false (omega (arith, e))) in
+    (c.requires.row_bound.0, omega arith)
 
 pub overflow_add-faults : goal.overflow_add-faults
 overflow_add-faults c =
-    omega (arith, c.requires.1.1 (λ e. c.if-declared-r.false (omega (arith, e))), c.NOSTEP-good)
+    omega (arith, c.requires.faults_in_bounds (λ e. c.if-declared-r.false (omega (arith, e))), c.NOSTEP-good)
 
 pub put-requires-2 : goal.put-requires-2
 put-requires-2 c =
-    let h = c.requires.1.1 (λ e. c.if-declared-r.false (omega (arith, e))) in
-    (omega (arith, c.requires.1.0), omega (arith, h, c.put.auto))
+    let h = c.requires.faults_in_bounds (λ e. c.if-declared-r.false (omega (arith, e))) in
+    (omega (arith, c.requires.declared_nonzero), omega (arith, h, c.put.auto))
 
 pub overflow_add-result : goal.overflow_add-result
 overflow_add-result c =
-    omega (arith, c.requires.1.1 (λ e. c.if-declared-r.false (omega (arith, e))), c.NOSTEP-good)
+    omega (arith, c.requires.faults_in_bounds (λ e. c.if-declared-r.false (omega (arith, e))), c.NOSTEP-good)
 
 pub returns : goal.returns
 returns c =

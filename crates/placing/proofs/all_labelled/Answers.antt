@@ -13,7 +13,7 @@ pub loop-r-init : goal.loop-r-init
 loop-r-init c = (refl, λ k h. absurd (omega arith))
 
 pub returns-then-name_word-eq0 : goal.returns-then-name_word-eq0
-returns-then-name_word-eq0 c = absurd (clash (cc))
+returns-then-name_word-eq0 c e = absurd (clash (cc))
 
 pub loop-r-preserved : goal.loop-r-preserved
 loop-r-preserved c =
@@ -26,6 +26,6 @@ loop-r-preserved c =
     )
 
 pub returns : goal.returns
-returns c =
+returns-then-name_word-eq0 c e =
     none_found c.args.rows.now c.loop-r.r c.loop-r.invariant.1 c.requires
     c.loop-r-test.false

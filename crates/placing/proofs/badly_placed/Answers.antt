@@ -8,20 +8,16 @@ use Rattle.placing.proofs.badly_placed.Goals as goal
 
 pub returns-then-kind-ne-BRANCH : goal.returns-then-kind-ne-BRANCH
 returns-then-kind-ne-BRANCH c =
-    other-not-bad _ _ _ c.kind.ensures (c.requires.0.0.2.details c.args.row.0 c.requires.1.0) c.if-kind-ne-BRANCH.true
+    other-not-bad _ _ _ c.kind.ensures (c.requires.formed.0.2.details c.args.row.0 c.requires.row_bound) c.if-kind-ne-BRANCH.true
 
 pub returns-then-name-ne0 : goal.returns-then-name-ne0
 returns-then-name-ne0 c = named-not-bad _ _ _ c.name-name.ensures c.if-name-ne0.true
 
 pub well_placed-requires : goal.well_placed-requires
-well_placed-requires c =
-    (
-      c.requires.0,
-      (
-        (c.requires.1.0, sym c.kind.ensures ∙ c.if-kind-ne-BRANCH.false, sym c.name-name.ensures ∙ c.if-name-ne0.false),
-        c.requires.1.1,
-      ),
-    )
+well_placed-requires c = record { formed = c.requires.formed; row_bound = (
+        (c.requires.row_bound, sym c.kind.ensures ∙ c.if-kind-ne-BRANCH.false, sym c.name-name.ensures ∙ c.if-name-ne0.false),
+        c.requires.reach,
+      ); reach =  }
 
 pub returns : goal.returns
 returns c = ap not c.well_placed.ensures ∙ not-well-bad _ _ _ c.name-name.ensures c.if-name-ne0.false

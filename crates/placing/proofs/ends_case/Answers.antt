@@ -31,17 +31,17 @@ abbrev list : tie.After-wide-list → ℕ
 list c = c.wide-list.result - 1
 
 listed : (c : tie.After-wide-list) → c.wide-list.result ≡ word (list_of (rows c) (row c))
-listed c = list-word c.requires.0 (row c) c.requires.1.0 _ c.requires.1.1 c.wide-list.ensures
+listed c = list-word c.requires.formed_lists (row c) c.requires.row_bound.0 _ c.requires.row_bound.1 c.wide-list.ensures
 
 list-of : (c : tie.Else-list-eq0) → list_of (rows c.before) (row c.before) ≡ some (list c.before)
 list-of c = row-some _ _ (listed c.before) c.if-list-eq0.false
 
 list-row : (c : tie.Else-list-eq0) → list c.before < row_count (rows c.before)
-list-row c = omega (arith, c.requires.1.0, list-before c.requires.0 _ c.requires.1.0 _ (list-of c))
+list-row c = omega (arith, c.requires.row_bound.0, list-before c.requires.formed_lists _ c.requires.row_bound.0 _ (list-of c))
 
 -- the list's kind says whether it is a Case
 case-is : (c : tie.After-kind) → eqb c.kind.result 14 ≡ is_case (class (rows c.before.before) (list c.before.before))
-case-is c = row-case _ _ _ c.kind.ensures (c.requires.0.formed.2.details _ (list-row c.before))
+case-is c = row-case _ _ _ c.kind.ensures (c.requires.formed_lists.formed.2.details _ (list-row c.before))
 
 is-case : (c : tie.Else-kind-ne-CASE) → is_case (class (rows c.before.before.before) (list c.before.before.before)) ≡ true
 is-case c = sym (case-is c.before) ∙ eq-eqb _ 14 c.if-kind-ne-CASE.false
@@ -50,7 +50,7 @@ case-end : (c : tie.After-size) → list c.before.before.before.before + c.size.
 case-end c = ap (λ (n : ℕ). list c.before.before.before.before + n) c.size.ensures
 
 case-within : (c : tie.After-size) → list c.before.before.before.before + c.size.result ≤ row_count (rows c.before.before.before.before)
-case-within c = omega (arith, case-end c, c.requires.0.formed.2.sized.within (list c.before.before.before.before) (list-row c.before.before.before))
+case-within c = omega (arith, case-end c, c.requires.formed_lists.formed.2.sized.within (list c.before.before.before.before) (list-row c.before.before.before))
 
 -- the Block of the Case
 abbrev home : tie.After-wide-block → ℕ
@@ -61,7 +61,7 @@ home_found c = innermost (rows c.before.before.before.before.before.before) (one
 
 homed : (c : tie.After-wide-block) → c.wide-block.result ≡ word (home_found c)
 homed c =
-    home-word c.requires.0 _ (list-row c.before.before.before.before.before) _ (is-case c.before.before.before) c.wide-block.ensures
+    home-word c.requires.formed_lists _ (list-row c.before.before.before.before.before) _ (is-case c.before.before.before) c.wide-block.ensures
 
 home_of : (c : tie.Else-block-eq0) → home_found c.before ≡ some (home c.before)
 home_of c = row-some _ _ (homed c.before) c.if-block-eq0.false
@@ -82,7 +82,7 @@ switch-found : (c : tie.Else-block_end-case_end) →
     (2 ≤ c.wide-block.result)
     × (innermost (rows c.before.before.before.before.before.before.before.before.before) is_switch (list c.before.before.before.before.before.before.before.before.before) ≡ some (switch-at c))
 switch-found c =
-    switch-before c.requires.0 (list c.before.before.before.before.before.before.before.before.before) (list-row c.before.before.before.before.before.before.before.before) _ (is-case c.before.before.before.before.before.before) (home_of c.before.before)
+    switch-before c.requires.formed_lists (list c.before.before.before.before.before.before.before.before.before) (list-row c.before.before.before.before.before.before.before.before) _ (is-case c.before.before.before.before.before.before) (home_of c.before.before)
 
 switch-within : (c : tie.Else-block_end-case_end) → switch-at c < row_count (rows c.before.before.before.before.before.before.before.before.before)
 switch-within c = omega (arith, home-row c.before.before)
@@ -90,7 +90,7 @@ switch-within c = omega (arith, home-row c.before.before)
 -- its kind says which switch it is
 switch-is : (c : tie.After-kind-2) → eqb c.kind-2.result 15 ≡ one_of (switch ∷ []) (class (rows c.before.before.before.before.before.before.before.before.before.before) (switch-at c.before))
 switch-is c =
-    row-expression-switch _ _ _ c.kind-2.ensures (c.requires.0.formed.2.details _ (switch-within c.before))
+    row-expression-switch _ _ _ c.kind-2.ensures (c.requires.formed_lists.formed.2.details _ (switch-within c.before))
 
 -- the Block goes on after the Case
 goes_on : (c : tie.Else-block_end-case_end) →
@@ -117,7 +117,7 @@ offset_bounds-lists-case c = omega (arith, list-row c.before.before.before.befor
 
 pub bounds-lists-case : goal.bounds-lists-case
 bounds-lists-case c =
-    omega (arith, list-row c.before.before.before.before.before, c.requires.0.enough)
+    omega (arith, list-row c.before.before.before.before.before, c.requires.formed_lists.enough)
 
 pub returns-then-block-eq0 : goal.returns-then-block-eq0
 returns-then-block-eq0 c =
@@ -128,7 +128,7 @@ size-requires-2 c = home-row c.before
 
 pub overflow_add-block_end : goal.overflow_add-block_end
 overflow_add-block_end c =
-    omega (arith, home-end c.before, c.requires.0.formed.2.sized.within (home c.before.before.before) (home-row c.before.before))
+    omega (arith, home-end c.before, c.requires.formed_lists.formed.2.sized.within (home c.before.before.before) (home-row c.before.before))
 
 pub returns-then-block_end-case_end : goal.returns-then-block_end-case_end
 returns-then-block_end-case_end c =
@@ -147,7 +147,7 @@ returns-then-kind-ne-SWITCH c =
 
 pub only_empty-requires : goal.only_empty-requires
 only_empty-requires c =
-    (c.requires.0.formed.2.details, case-within c.before.before.before.before.before.before.before.before)
+    (c.requires.formed_lists.formed.2.details, case-within c.before.before.before.before.before.before.before.before)
 
 pub returns : goal.returns
 returns c =

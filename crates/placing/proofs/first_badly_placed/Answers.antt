@@ -31,8 +31,7 @@ returns-then-needs_lists c = c.needs_lists.ensures.0 c.if-needs_lists.true
 pub badly_placed-requires : goal.badly_placed-requires
 badly_placed-requires c =
     let v = c.loop-r.invariant in
-    let p = c.requires in
-    ((p.0, λ f. p.1 (c.needs_lists.ensures.1 c.if-needs_lists.false f)), (c.loop-r-test.true, (v.1, v.2)))
+    let p = c.requires in record { formed = (p.0, λ f. p.1 (c.needs_lists.ensures.1 c.if-needs_lists.false f)); row_bound = c.loop-r-test.true; reach = (v.1, v.2) }
 
 pub returns-then-badly_placed : goal.returns-then-badly_placed
 unfolding placing

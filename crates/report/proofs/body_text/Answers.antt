@@ -32,18 +32,12 @@ pub returns-in-Refused : goal.returns-in-Refused
 returns-in-Refused c =
     let m = c.mark.ensures in
     let e = sym (ap given c.in-Refused.is) ∙ m.0 in
-    let t = c.refused_text.ensures in (
-      t.0 ∙ ap (λ n. refused_text n c.index_of.result) c.number_of.ensures
+    let t = c.refused_text.ensures in record { text = t.0 ∙ ap (λ n. refused_text n c.index_of.result) c.number_of.ensures
           ∙ ap (refused_text _) c.index_of.ensures
-          ∙ refused-text _ _ _ _ _ (enough _ 16000 2000 (omega arith) (omega arith) (omega arith)) _ _ e,
-      t.1,
-    )
+          ∙ refused-text _ _ _ _ _ (enough _ 16000 2000 (omega arith) (omega arith) (omega arith)) _ _ e; counts = (t.1, ) }
 
 pub returns-in-Marked : goal.returns-in-Marked
 returns-in-Marked c =
     let m = c.mark.ensures in
     let e = sym (ap given c.in-Marked.is) ∙ m.0 in
-    let t = c.marked_text.ensures in (
-      t.0 ∙ marked-text _ _ _ _ _ (enough _ 16000 2000 (omega arith) (omega arith) (omega arith)) _ _ _ e _ _ m.1.0 m.1.1,
-      t.1,
-    )
+    let t = c.marked_text.ensures in record { text = t.0 ∙ marked-text _ _ _ _ _ (enough _ 16000 2000 (omega arith) (omega arith) (omega arith)) _ _ _ e _ _ m.1.0 m.1.1; counts = (t.1, ) }

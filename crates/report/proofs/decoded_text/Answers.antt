@@ -54,11 +54,8 @@ pub returns : goal.returns
 returns c =
     let r = c.word.ensures in
     let p = c.word-2.ensures in
-    let t = c.body_text.ensures in (
-      t.0
+    let t = c.body_text.ensures in record { text = t.0
           ∙ parts _ _ _ _ _ _ c.requires.1.0 r p
           (words-read _ _ _ _ _ _ (rows_fit c.requires.0 r c.requires.1.1.0) c.words.ensures)
           (words-read _ _ _ _ _ _ (pairs-fit c.requires.0 p c.requires.1.1.1.0) c.words-2.ensures)
-          refl,
-      t.1,
-    )
+          refl; counts = (t.1, ) }

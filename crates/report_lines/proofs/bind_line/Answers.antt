@@ -10,7 +10,7 @@ use borrow.Author.Rules.{rules}
 use Rattle.report_lines.proofs.bind_line.Goals as goal
 
 pub returns-then-word-eq0 : goal.returns-then-word-eq0
-returns-then-word-eq0 c = let s = c.args in (same_text (bind-none s.bindings.now s.row c.if-word-eq0.true) (nothing _ _ _ refl), omega arith)
+returns-then-word-eq0 c = let s = c.args in record { text = same_text (bind-none s.bindings.now s.row c.if-word-eq0.true) (nothing _ _ _ refl); most = omega arith }
 
 pub word_and-requires : goal.word_and-requires
 word_and-requires c =
@@ -23,5 +23,4 @@ returns c =
     let n = c.number_and-end.ensures in
     let w = c.word_and.ensures in
     let s = c.args in
-    let h : s.row < 10000 = omega arith in
-    (bind-put s.bindings.now s.row c.if-word-eq0.false n w.0, omega (arith, w.1, number-ends 3 _ h (omega arith) n))
+    let h : s.row < 10000 = omega arith in record { text = bind-put s.bindings.now s.row c.if-word-eq0.false n w.0; most = omega (arith, w.1, number-ends 3 _ h (omega arith) n) }

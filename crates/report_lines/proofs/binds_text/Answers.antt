@@ -24,8 +24,4 @@ loop-row-preserved c =
 
 pub returns : goal.returns
 returns c =
-    let t = c.title-end.ensures in
-    (
-      binds-put _ _ c.loop-row.row c.bound_count.ensures (omega arith) t.0 c.loop-row.invariant.1.1,
-      omega (arith, t.1, c.loop-row.invariant.1.0),
-    )
+    let t = c.title-end.ensures in record { text = binds-put _ _ c.loop-row.row c.bound_count.ensures (omega arith) t.0 c.loop-row.invariant.1.1; most = (omega (arith, t.1, c.loop-row.invariant.1.0), ) }

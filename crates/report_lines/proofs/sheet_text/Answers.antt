@@ -23,5 +23,4 @@ loop-i-preserved c =
 
 pub returns : goal.returns
 returns c =
-    let t = c.title-end.ensures in
-    (sheet-put _ _ c.loop-i.i (omega arith) t.0 c.loop-i.invariant.1.1, omega (arith, t.1, c.loop-i.invariant.1.0))
+    let t = c.title-end.ensures in record { text = sheet-put _ _ c.loop-i.i (omega arith) t.0 c.loop-i.invariant.1.1; most = omega (arith, t.1, c.loop-i.invariant.1.0) }

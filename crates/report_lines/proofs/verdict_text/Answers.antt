@@ -9,10 +9,8 @@ use Rattle.report_lines.proofs.verdict_text.Goals as goal
 
 pub returns-then-terminating : goal.returns-then-terminating
 returns-then-terminating c =
-    let b = c.bytes.ensures in
-    (same_text (sym (ap verdict_text c.if-terminating.true)) b, omega (arith, b.ends))
+    let b = c.bytes.ensures in record { text = same_text (sym (ap verdict_text c.if-terminating.true)) b; most = omega (arith, b.ends) }
 
 pub returns-else-terminating : goal.returns-else-terminating
 returns-else-terminating c =
-    let b = c.bytes-else-terminating.ensures in
-    (same_text (sym (ap verdict_text c.if-terminating.false)) b, omega (arith, b.ends))
+    let b = c.bytes-else-terminating.ensures in record { text = same_text (sym (ap verdict_text c.if-terminating.false)) b; most = omega (arith, b.ends) }

@@ -40,12 +40,12 @@ passed : (c : tie.Else-not-detail_allowed) → detail_allowed c.kind-kind.result
 passed c = sym c.detail_allowed.ensures ∙ not-false c.detail_allowed.result c.if-not-detail_allowed.false
 
 pub returns-then-not-detail_allowed : goal.returns-then-not-detail_allowed
-returns-then-not-detail_allowed c =
+returns-then-not-detail_allowed c p many =
     bad-detail _ p _ _ _ c.kind-kind.ensures c.detail-detail.ensures
     (sym c.detail_allowed.ensures ∙ not-true c.detail_allowed.result c.if-not-detail_allowed.true)
 
 pub returns-then-position-eq0 : goal.returns-then-position-eq0
-returns-then-position-eq0 c =
+returns-then-position-eq0 c p many =
     bad-position _ p _ _ _ c.kind-kind.ensures c.detail-detail.ensures (passed c.before.before.before) _ c.position.ensures
     c.if-position-eq0.true
 
@@ -53,7 +53,7 @@ pub name_allowed-requires : goal.name_allowed-requires
 name_allowed-requires c = passed c.before.before.before.before
 
 pub returns : goal.returns
-returns c =
+returns-then-not-detail_allowed c p many =
     c.name_allowed.ensures
     ∙ by_name _ p _ _ _ c.kind-kind.ensures c.detail-detail.ensures (passed c.before.before.before.before.before) _ c.position.ensures
     c.if-position-eq0.false _ c.name-name.ensures _ many

@@ -87,5 +87,5 @@ list_fits-requires c =
     root-list c.args.rows.now c.args.pairs.now c.requires.0 (allowed c.before.before.before) (a_body c.before) c.requires.1
 
 pub returns : goal.returns
-returns c =
+returns-then-not-row_allowed c y =
     all_right c.args.rows.now c.args.pairs.now c.requires.0 (allowed c.before.before.before.before) (a_body c.before.before) (c.list_fits.ensures y _ refl)

@@ -11,4 +11,4 @@ pub overflow_sub-result-2 : goal.overflow_sub-result-2
 overflow_sub-result-2 c = omega (arith, mod-le (c.args.limit - c.args.made) c.round_from-round.result)
 
 pub returns : goal.returns
-returns c = skipped _ _ _ _ _ c.round_from-round.ensures _ _ c.requires.1.1
+returns c = skipped _ _ _ _ _ c.round_from-round.ensures _ _ c.requires.inside.1

@@ -18,7 +18,7 @@ abbrev row : tie.At-loop-round goal.the-invariant-loop-round goal.the-decreases-
 row c = c.loop-round.here - 2
 
 body : (c : tie.At-loop-round goal.the-invariant-loop-round goal.the-decreases-loop-round) → Body c.args.rows.now c.args.pairs.now c.args.bytes.now
-body c = facts.body _ _ _ c.requires.0.0.well_formed
+body c = facts.body _ _ _ c.requires.faultless.0.well_formed
 
 inside : (c : tie.At-loop-round goal.the-invariant-loop-round goal.the-decreases-loop-round) → 2 ≤ c.loop-round.here → Inside c.args.rows.now (at (row c))
 inside c h = row_inside _ _ h c.loop-round.invariant.0
@@ -27,7 +27,7 @@ fork-row : (c : tie.After-is_fork goal.the-invariant-loop-round goal.the-decreas
 fork-row c = inside c.before.before.before c.if-here-lt2.false
 
 pub loop-round-init : goal.loop-round-init
-loop-round-init c = (c.requires.1, goes-start _ _ _ c.args.place)
+loop-round-init c = (c.requires.inside, goes-start _ _ _ c.args.place)
 
 pub returns-then-here-lt2 : goal.returns-then-here-lt2
 returns-then-here-lt2 c = goes-start _ _ _ c.args.place
@@ -42,14 +42,14 @@ pub offset_bounds-firsts-row : goal.offset_bounds-firsts-row
 offset_bounds-firsts-row c = omega (arith, (fork-row c.before.before).0, (body c.before.before.before.before.before).most_rows)
 
 pub bounds-firsts-row : goal.bounds-firsts-row
-bounds-firsts-row c = omega (arith, (fork-row c.before.before.before).0, c.requires.0.1.room)
+bounds-firsts-row c = omega (arith, (fork-row c.before.before.before).0, c.requires.faultless.1.room)
 
 pub offset_bounds-steps-wide : goal.offset_bounds-steps-wide
 offset_bounds-steps-wide c = omega (arith, c.wide.ensures, c.shared_slice_known-in-loop-round-1.given (row c.before.before.before.before.before.before.before))
 
 pub bounds-steps-wide : goal.bounds-steps-wide
 bounds-steps-wide c =
-    omega (arith, c.wide.ensures, first-in c.requires.0.0 c.requires.0.1 (row c.before.before.before.before.before.before.before.before) (fork-row c.before.before.before.before.before))
+    omega (arith, c.wide.ensures, first-in c.requires.faultless.0 c.requires.faultless.1 (row c.before.before.before.before.before.before.before.before) (fork-row c.before.before.before.before.before))
 
 -- the place after it
 next_place : (c : tie.After-wide-here goal.the-invariant-loop-round goal.the-decreases-loop-round) → 
@@ -59,13 +59,13 @@ next_place c = c.wide-here.ensures ∙ ap (λ (n : ℕ). get_or c.args.steps.now
 next-stands : (c : tie.After-wide-here goal.the-invariant-loop-round goal.the-decreases-loop-round) →
     Inside c.args.rows.now (place_of c.wide-here.result)
 next-stands c =
-    subst (λ (q : ℕ). Inside c.args.rows.now (place_of q)) (sym (next_place c)) (first-inside c.requires.0.0 c.requires.0.1 (row c.before.before.before.before.before.before.before.before) (fork-row c.before.before.before.before.before))
+    subst (λ (q : ℕ). Inside c.args.rows.now (place_of q)) (sym (next_place c)) (first-inside c.requires.faultless.0 c.requires.faultless.1 (row c.before.before.before.before.before.before.before.before) (fork-row c.before.before.before.before.before))
 
 next-round : (c : tie.After-wide-here goal.the-invariant-loop-round goal.the-decreases-loop-round) → 
     Goes c.args.rows.now c.args.pairs.now c.args.bytes.now c.args.place (c.loop-round.round + 1) c.wide-here.result
 next-round c =
     subst (Goes c.args.rows.now c.args.pairs.now c.args.bytes.now c.args.place (c.loop-round.round + 1)) (sym (next_place c))
-    (goes-more _ _ _ c.requires.0.0 c.requires.0.1 c.args.place c.loop-round.round c.loop-round.here (row c.before.before.before.before.before.before.before.before)
+    (goes-more _ _ _ c.requires.faultless.0 c.requires.faultless.1 c.args.place c.loop-round.round c.loop-round.here (row c.before.before.before.before.before.before.before.before)
     (row_word _ c.if-here-lt2.false) (fork-row c.before.before.before.before.before) c.loop-round.invariant.1
     (sym c.if-is_fork.false ∙ c.is_fork.ensures))
 

@@ -25,8 +25,7 @@ no_fault c =
 pub steps_of-requires : goal.steps_of-requires
 steps_of-requires c =
     let g = no_fault c.before.before.before.before in
-    let m = (body _ _ _ g.well_formed).most_rows in
-    ((g, c.is_faultless.ensures.bound), (omega arith, omega arith))
+    let m = (body _ _ _ g.well_formed).most_rows in record { faultless = (g, c.is_faultless.ensures.bound); rows_in_bounds = (omega arith, omega arith) }
 
 pub walk_on-requires : goal.walk_on-requires
 walk_on-requires c =

@@ -134,8 +134,7 @@ next-turn c =
 
 pub past_rounds-made-requires : goal.past_rounds-made-requires
 past_rounds-made-requires c =
-    let t = next-turn c.before in
-    (c.requires, (t.inside, t.within))
+    let t = next-turn c.before in record { faultless = c.requires; inside = (t.inside, t.within) }
 
 pub loop-made-smaller : goal.loop-made-smaller
 loop-made-smaller c =

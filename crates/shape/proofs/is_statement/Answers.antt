@@ -8,7 +8,7 @@ use Rattle.rules.proofs.ByKind.{among, among-last, kind-statement}
 use Rattle.shape.proofs.is_statement.Goals as goal
 
 pub returns-then-kind-eq-CASE : goal.returns-then-kind-eq-CASE
-returns-then-kind-eq-CASE c = sym (ap (λ (k : ℕ). not (among (14 ∷ 17 ∷ []) k)) c.if-kind-eq-CASE.true) ∙ kind-statement _ d a
+returns-then-kind-eq-CASE c d a = sym (ap (λ (k : ℕ). not (among (14 ∷ 17 ∷ []) k)) c.if-kind-eq-CASE.true) ∙ kind-statement _ d a
 
 pub returns : goal.returns
-returns c = ap not (among-last _ 14 17 c.if-kind-eq-CASE.false) ∙ kind-statement _ d a
+returns-then-kind-eq-CASE c d a = ap not (among-last _ 14 17 c.if-kind-eq-CASE.false) ∙ kind-statement _ d a

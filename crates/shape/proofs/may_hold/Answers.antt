@@ -17,31 +17,31 @@ told : {h g : Holding} (i : ℕ) (c : Class) {b : Bool} → h ≡ g → b ≡ ma
 told i c e r = rw e r
 
 pub returns-in-Nothing : goal.returns-in-Nothing
-returns-in-Nothing c = told _ (class_of _ d) c.in-Nothing.is refl
+returns-in-Nothing c d a = told _ (class_of _ d) c.in-Nothing.is refl
 
 pub returns-then-i-eq0 : goal.returns-then-i-eq0
-returns-then-i-eq0 c = told _ (class_of _ d) c.in-Statement.is (c.is_statement.ensures d a ∙ one_statement _ d a _ c.if-i-eq0.true)
+returns-then-i-eq0 c d a = told _ (class_of _ d) c.in-Statement.is (c.is_statement.ensures d a ∙ one_statement _ d a _ c.if-i-eq0.true)
 
 pub returns-else-i-eq0 : goal.returns-else-i-eq0
-returns-else-i-eq0 c = told _ (class_of _ d) c.in-Statement.is (no-second-statement (class_of _ d) _ c.if-i-eq0.false)
+returns-else-i-eq0 c d a = told _ (class_of _ d) c.in-Statement.is (no-second-statement (class_of _ d) _ c.if-i-eq0.false)
 
 pub returns-then-i-eq0-2 : goal.returns-then-i-eq0-2
-returns-then-i-eq0-2 c = told _ (class_of _ d) c.in-Body.is (one_block _ d a _ c.if-i-eq0-2.true)
+returns-then-i-eq0-2 c d a = told _ (class_of _ d) c.in-Body.is (one_block _ d a _ c.if-i-eq0-2.true)
 
 pub returns-else-i-eq0-2 : goal.returns-else-i-eq0-2
-returns-else-i-eq0-2 c = told _ (class_of _ d) c.in-Body.is (no-second-block (class_of _ d) _ c.if-i-eq0-2.false)
+returns-else-i-eq0-2 c d a = told _ (class_of _ d) c.in-Body.is (no-second-block (class_of _ d) _ c.if-i-eq0-2.false)
 
 pub returns-in-Branches : goal.returns-in-Branches
-returns-in-Branches c = told _ (class_of _ d) c.in-Branches.is (c.may_branch.ensures d a)
+returns-in-Branches c d a = told _ (class_of _ d) c.in-Branches.is (c.may_branch.ensures d a)
 
 pub returns-in-Statements : goal.returns-in-Statements
-returns-in-Statements c = told _ (class_of _ d) c.in-Statements.is (c.is_statement-in-Statements.ensures d a)
+returns-in-Statements c d a = told _ (class_of _ d) c.in-Statements.is (c.is_statement-in-Statements.ensures d a)
 
 pub returns-in-Cases : goal.returns-in-Cases
-returns-in-Cases c = told _ (class_of _ d) c.in-Cases.is (kind-case _ d a)
+returns-in-Cases c d a = told _ (class_of _ d) c.in-Cases.is (kind-case _ d a)
 
 pub returns-in-Comms : goal.returns-in-Comms
-returns-in-Comms c = told _ (class_of _ d) c.in-Comms.is (kind-comm _ d a)
+returns-in-Comms c d a = told _ (class_of _ d) c.in-Comms.is (kind-comm _ d a)
 
 pub may_hold_spec : {M : Type 1} → statement M
 may_hold_spec =

@@ -8,20 +8,20 @@ use Rattle.steps.proofs.select_steps.Goals as goal
 
 pub clause_steps-end-requires : goal.clause_steps-end-requires
 clause_steps-end-requires c =
-    let p = c.requires in
+    let p = (c.requires.formed, c.requires.r_value) in
     (p.0.0, p.0.1, omega (arith, p.0.2.2, select-room _ p.0.2.0 p.0.2.1 _ p.1))
 
 pub returns-then-first-end : goal.returns-then-first-end
 returns-then-first-end c = λ p b.
-    select-whole _ p b _ c.clause_steps-end.ensures c.requires.1 c.if-first-end.true
+    select-whole _ p b _ c.clause_steps-end.ensures c.requires.r_value c.if-first-end.true
 
 -- room for the stop
 pub bounds-steps-first : goal.bounds-steps-first
 bounds-steps-first c =
-    let p = c.requires in
+    let p = (c.requires.formed, c.requires.r_value) in
     stop-room _ p.0.2.0 p.0.2.1 _ c.clause_steps-end.ensures p.1 (omega (arith, c.if-first-end.false))
     (omega (arith, c.clause_steps-end.kept.1.1.1.0, p.0.2.2))
 
 pub returns : goal.returns
 returns c = λ p b.
-    select-stops _ p b _ c.clause_steps-end.ensures c.requires.1 (omega (arith, c.if-first-end.false)) (bounds-steps-first c)
+    select-stops _ p b _ c.clause_steps-end.ensures c.requires.r_value (omega (arith, c.if-first-end.false)) (bounds-steps-first c)

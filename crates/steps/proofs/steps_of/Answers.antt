@@ -12,7 +12,7 @@ use Rattle.steps.proofs.steps_of.Tie as tie
 
 -- ---- the body, and the room of each table
 is_body_lem : (s : tie.Start) → Body s.args.rows.now s.args.pairs.now s.args.bytes.now
-is_body_lem s = body _ _ _ s.requires.0.0.well_formed
+is_body_lem s = body _ _ _ s.requires.faultless.0.well_formed
 
 parents-room : (c : tie.After-parents_of) → row_count c.args.rows.now ≤ length c.parents_of.new.1.0
 parents-room c = omega (arith, c.parents_of.auto.1.0, (is_body_lem c.before.before.before.before.before.before.before.before).most_rows)
@@ -25,25 +25,20 @@ parents_of-requires c = let b = is_body_lem c.before.before.before.before.before
 
 pub afters_of-requires : goal.afters_of-requires
 afters_of-requires c =
-    let b = is_body_lem c.before.before.before.before.before.before.before.before.before.before.before.before in
-    (((_, _, b), c.parents_of.ensures), (parents-room c.before.before.before.before, b.most_rows))
+    let b = is_body_lem c.before.before.before.before.before.before.before.before.before.before.before.before in record { formed = ((_, _, b), c.parents_of.ensures); rows_in_bounds = (parents-room c.before.before.before.before, b.most_rows) }
 
 pub destinations_of-requires : goal.destinations_of-requires
-destinations_of-requires c =
-    (c.requires.0, ((c.parents_of.ensures, c.afters_of.ensures), (parents-room c.before.before.before.before.before.before.before.before.before, afters_room c.before.before.before.before.before, (is_body_lem c.before.before.before.before.before.before.before.before.before.before.before.before.before.before.before.before.before).most_rows)))
+destinations_of-requires c = record { faultless = c.requires.faultless; parents = (c.parents_of.ensures, c.afters_of.ensures); rows_in_bounds = (parents-room c.before.before.before.before.before.before.before.before.before, afters_room c.before.before.before.before.before, (is_body_lem c.before.before.before.before.before.before.before.before.before.before.before.before.before.before.before.before.before).most_rows) }
 
 pub all_steps-requires : goal.all_steps-requires
 all_steps-requires c =
-    let b = is_body_lem c.before.before.before.before.before.before.before.before.before.before.before.before.before.before.before.before.before.before.before.before.before.before.before in (
-      record {
+    let b = is_body_lem c.before.before.before.before.before.before.before.before.before.before.before.before.before.before.before.before.before.before.before.before.before.before.before in record { tables = record {
         body = b;
         afters_room = afters_room c.before.before.before.before.before.before.before.before.before.before.before;
         after_rows = c.afters_of.ensures;
         destinations_room = omega (arith, c.destinations_of.kept.1.1.1.1.1.1.0, b.most_rows);
         branch_rows = c.destinations_of.ensures;
-      },
-      c.requires.1,
-    )
+      }; rows_in_bounds = (c.requires.rows_in_bounds, ) }
 
 pub returns : goal.returns
 returns c = c.all_steps.ensures

@@ -8,17 +8,17 @@ use Rattle.steps.proofs.switch_steps.Goals as goal
 
 pub clause_steps-clauses-requires : goal.clause_steps-clauses-requires
 clause_steps-clauses-requires c =
-    let p = c.requires in
+    let p = (c.requires.formed, c.requires.r_value) in
     (p.0.0, p.0.1, omega (arith, p.0.2.2, switch-room _ p.0.2.0 p.0.2.1 _ p.1.0))
 
 pub returns-then-clauses : goal.returns-then-clauses
 returns-then-clauses c = λ p b.
-    switch-whole _ p b _ c.clause_steps-clauses.ensures c.requires.1.0 c.if-clauses.true
+    switch-whole _ p b _ c.clause_steps-clauses.ensures c.requires.r_value.0 c.if-clauses.true
 
 -- room for one step more
 pub bounds-steps-end : goal.bounds-steps-end
 bounds-steps-end c =
-    let p = c.requires in
+    let p = (c.requires.formed, c.requires.r_value) in
     on_room _ p.0.2.0 p.0.2.1 _ c.clause_steps-clauses.ensures p.1.0 c.if-clauses.false
     (omega (arith, c.clause_steps-clauses.kept.1.1.1.0, p.0.2.2))
 
@@ -30,5 +30,5 @@ overflow_add-result c = let g = bounds-steps-end c in let k = c.clause_steps-cla
 
 pub returns : goal.returns
 returns c = λ p b.
-    let h = c.requires.1 in
+    let h = c.requires.r_value in
     switch-on _ p b _ c.clause_steps-clauses.ensures h.0 _ c.if-clauses.false h.1 (bounds-steps-end c)

@@ -9,5 +9,4 @@ use Rattle.report_lines.proofs.text.title.Goals as goal
 pub returns : goal.returns
 returns c =
     let b = c.bytes-end.ensures in
-    let n = c.number_and.ensures in
-    (behind _ _ b n, omega (arith, b.ends, any-ends _ _ n))
+    let n = c.number_and.ensures in record { text = behind _ _ b n; most = omega (arith, b.ends, any-ends _ _ n) }

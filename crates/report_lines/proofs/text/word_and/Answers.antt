@@ -9,5 +9,4 @@ use Rattle.report_lines.proofs.text.word_and.Goals as goal
 pub returns : goal.returns
 returns c =
     let w = c.number_and.ensures in
-    let h : c.args.word < 10000000000 = omega arith in
-    (w, number-ends 9 _ h (omega arith) w)
+    let h : c.args.word < 10000000000 = omega arith in record { text = w; most = number-ends 9 _ h (omega arith) w }

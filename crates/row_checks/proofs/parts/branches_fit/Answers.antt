@@ -23,6 +23,6 @@ pub returns-then-size-first-2 : goal.returns-then-size-first-2
 returns-then-size-first-2 c = never
 
 pub returns : goal.returns
-returns c =
+returns-then-size-lt3 c y =
     two_parts _ _ c.size-size.ensures c.size-first.ensures (omega arith) (omega arith) c.size.ensures (omega arith)
     c.kind.ensures c.may_hold.ensures (not-false _ c.if-not-may_hold.false) c.kind-2.ensures c.may_hold-2.ensures y

@@ -13,6 +13,6 @@ pub returns-then-size : goal.returns-then-size
 returns-then-size c = never
 
 pub returns : goal.returns
-returns c =
+returns-then-size-lt2 c y =
     one-child _ _ c.size-size.ensures _ c.size.ensures (omega arith) (omega arith) c.kind.ensures
     c.may_hold.ensures y

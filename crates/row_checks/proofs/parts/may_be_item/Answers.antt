@@ -33,14 +33,14 @@ module _ (k d n : ℕ) (a : detail_allowed k d ≡ true) where
   any-kind comms l e z = absurd (omega arith)
 
 pub returns-then-items-ne0 : goal.returns-then-items-ne0
-returns-then-items-ne0 c = one-kind _ d _ a h l e c.if-items-ne0.true
+returns-then-items-ne0 c h d l e a = one-kind _ d _ a h l e c.if-items-ne0.true
 
 pub returns-then-kind-eq-CASE : goal.returns-then-kind-eq-CASE
-returns-then-kind-eq-CASE c =
+returns-then-kind-eq-CASE c h d l e a =
     let k = c.args.kind in
     sym (ap (λ (j : ℕ). not (among (14 ∷ 17 ∷ []) j)) c.if-kind-eq-CASE.true) ∙ any-kind k d _ a h l e c.if-items-ne0.false
 
 pub returns : goal.returns
-returns c =
+returns-then-items-ne0 c h d l e a =
     let k = c.args.kind in
     ap not (among-last k 14 17 c.if-kind-eq-CASE.false) ∙ any-kind k d _ a h l e c.if-items-ne0.false

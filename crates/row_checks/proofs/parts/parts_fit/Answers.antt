@@ -25,15 +25,15 @@ no-parts w r Cases o z = z
 no-parts w r Comms o z = z
 
 pub returns-in-Statement : goal.returns-in-Statement
-returns-in-Statement c = let e = c.in-Statement.is in rw e (rw e at (c.child_fits.ensures y))
+returns-in-Statement c y = let e = c.in-Statement.is in rw e (rw e at (c.child_fits.ensures y))
 
 pub returns-in-Body : goal.returns-in-Body
-returns-in-Body c = let e = c.in-Body.is in rw e (rw e at (c.child_fits-in-Body.ensures y))
+returns-in-Body c y = let e = c.in-Body.is in rw e (rw e at (c.child_fits-in-Body.ensures y))
 
 pub returns-in-Branches : goal.returns-in-Branches
-returns-in-Branches c = rw c.in-Branches.is (c.branches_fit.ensures y)
+returns-in-Branches c y = rw c.in-Branches.is (c.branches_fit.ensures y)
 
 pub returns-in_default : goal.returns-in_default
-returns-in_default c =
+returns-in_default c y =
     let a = c.args in
     no-parts a.rows.now a.row.0 a.holding c.in_default.keys4 (sym c.size.ensures ∙ eqb-true c.size.result 1 y)

@@ -9,7 +9,7 @@ use Rattle.row_checks.specs.Plain.{PlainItems}
 use Rattle.row_checks.proofs.plain.end_of_items.Goals as goal
 
 pub loop-c-init : goal.loop-c-init
-loop-c-init c = record { low = omega arith; high = omega arith; plain = λ k l m. absurd (omega arith) }
+loop-c-init c p many = record { low = omega arith; high = omega arith; plain = λ k l m. absurd (omega arith) }
 
 pub plain_item-requires : goal.plain_item-requires
 plain_item-requires c = omega arith
@@ -24,7 +24,7 @@ pub loop-c-smaller : goal.loop-c-smaller
 loop-c-smaller c = omega arith
 
 pub loop-c-preserved : goal.loop-c-preserved
-loop-c-preserved c =
+loop-c-preserved c p many =
     let i = c.loop-c.invariant p many in
     record {
       low = omega (arith, i.low);

@@ -35,7 +35,7 @@ pub returns-then-position-eq0 : goal.returns-then-position-eq0
 returns-then-position-eq0 c = never
 
 pub returns-then-kind-lt-BRANCH : goal.returns-then-kind-lt-BRANCH
-returns-then-kind-lt-BRANCH c =
+returns-then-kind-lt-BRANCH c y p many =
     let a = alone c.before.before.before.before.before.before.before.before in
     let e = c.kind-kind.ensures in
     plain-words _ p _ a.0 a.1 (omega (arith, e, c.if-kind-lt-BRANCH.true))
@@ -48,6 +48,6 @@ pub returns-then-kind-ne-BRANCH : goal.returns-then-kind-ne-BRANCH
 returns-then-kind-ne-BRANCH c = never
 
 pub returns : goal.returns
-returns c =
+returns-then-size-ne1 c y p many =
     let a = alone c.before.before.before.before in
     plain_row _ p _ a.0 a.1 (omega (arith, c.kind-kind.ensures, c.if-kind-ne-BRANCH.false)) (not-true _ (sym (c.row_allowed.ensures p many) ∙ y))

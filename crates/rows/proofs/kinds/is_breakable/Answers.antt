@@ -10,19 +10,19 @@ abbrev breakable : List ℕ
 breakable = 20 ∷ 19 ∷ 18 ∷ 16 ∷ 15 ∷ []
 
 pub returns-in-15 : goal.returns-in-15
-returns-in-15 c = sym (ap (among breakable) c.in-15.is) ∙ kind-breakable _ d a
+returns-in-15 c d a = sym (ap (among breakable) c.in-15.is) ∙ kind-breakable _ d a
 
 pub returns-in-16 : goal.returns-in-16
-returns-in-16 c = sym (ap (among breakable) c.in-16.is) ∙ kind-breakable _ d a
+returns-in-16 c d a = sym (ap (among breakable) c.in-16.is) ∙ kind-breakable _ d a
 
 pub returns-in-18 : goal.returns-in-18
-returns-in-18 c = sym (ap (among breakable) c.in-18.is) ∙ kind-breakable _ d a
+returns-in-18 c d a = sym (ap (among breakable) c.in-18.is) ∙ kind-breakable _ d a
 
 pub returns-in-19 : goal.returns-in-19
-returns-in-19 c = sym (ap (among breakable) c.in-19.is) ∙ kind-breakable _ d a
+returns-in-19 c d a = sym (ap (among breakable) c.in-19.is) ∙ kind-breakable _ d a
 
 pub returns-in-20 : goal.returns-in-20
-returns-in-20 c = sym (ap (among breakable) c.in-20.is) ∙ kind-breakable _ d a
+returns-in-20 c d a = sym (ap (among breakable) c.in-20.is) ∙ kind-breakable _ d a
 
 pub returns-in_default : goal.returns-in_default
-returns-in_default c = sym (none-among breakable _ c.in_default.rest) ∙ kind-breakable _ d a
+returns-in_default c d a = sym (none-among breakable _ c.in_default.rest) ∙ kind-breakable _ d a

@@ -6,7 +6,7 @@ use Rattle.rules.proofs.ByKind.{among, among-last, kind-loop}
 use Rattle.rows.proofs.kinds.is_loop.Goals as goal
 
 pub returns-then-kind-eq-FOR : goal.returns-then-kind-eq-FOR
-returns-then-kind-eq-FOR c = sym (ap (among (19 ∷ 20 ∷ [])) c.if-kind-eq-FOR.true) ∙ kind-loop _ d a
+returns-then-kind-eq-FOR c d a = sym (ap (among (19 ∷ 20 ∷ [])) c.if-kind-eq-FOR.true) ∙ kind-loop _ d a
 
 pub returns : goal.returns
-returns c = among-last _ 19 20 c.if-kind-eq-FOR.false ∙ kind-loop _ d a
+returns-then-kind-eq-FOR c d a = among-last _ 19 20 c.if-kind-eq-FOR.false ∙ kind-loop _ d a
