@@ -2,3 +2,4 @@ pub mod Ranges
 pub mod Leaving
 pub mod Referring
 pub mod ByWords
+pub mod Search

@@ -63,9 +63,9 @@ module _ {w p b : List ℕ} (body : Body w p b) where
       (λ y. absurd (omega (arith, (body.one_statement t (omega arith) (rw (is_one (class w t) labeled y))).0)))
       (λ f. f))
 
-  pub label-of-item : {c e s : ℕ} → e ≤ row_count w → Item w e c s → label_number w c ≡ 0 → label_number w s ≡ 0
+  pub label-of-item : {e c s : ℕ} → e ≤ row_count w → Item w e c s → label_number w c ≡ 0 → label_number w s ≡ 0
   label-of-item m (here l) z = z
-  label-of-item {c} m (later l i) z = label-of-item m i (label_after c (omega arith))
+  label-of-item {e} {c} m (later l i) z = label-of-item m i (label_after c (omega arith))
 
   -- ---- the list of a row that holds one
   pub list-label : (q : ℕ) → is_list (class w q) ≡ true → label_number w (suc q) ≡ 0

@@ -4,89 +4,93 @@ use label::LabelAnswer;
 use placing::Placing;
 use refusals::Refusal;
 use returns::Verdict;
+use std::io;
 use testing::show;
 
-pub fn refusal(rows: &[u32], pairs: &[u32], bytes: &[u8]) {
-    show::text(b"refusal ");
+pub fn refusal(rt: &impl Print, rows: &[u32], pairs: &[u32], bytes: &[u8]) -> io::Result<()> {
+    show::text(rt, b"refusal ")?;
     match body::refusal_of(rows, pairs, bytes) {
-        Checked::Refused(r) => show::refusal(r, b""),
-        Checked::WellFormed => show::text(b"ok"),
+        Checked::Refused(r) => show::refusal(rt, r, b""),
+        Checked::WellFormed => show::text(rt, b"ok"),
     }
 }
 
-fn refused(refusal: Refusal) {
-    show::text(b" refused ");
-    show::refusal(refusal, b"");
+fn refused(rt: &impl Print, refusal: Refusal) -> io::Result<()> {
+    show::text(rt, b" refused ")?;
+    show::refusal(rt, refusal, b"")
 }
 
-pub fn placed(rows: &[u32], pairs: &[u32], bytes: &[u8]) {
-    show::text(b"placed");
+pub fn placed(rt: &impl Print, rows: &[u32], pairs: &[u32], bytes: &[u8]) -> io::Result<()> {
+    show::text(rt, b"placed")?;
     match placing::placing_of(rows, pairs, bytes) {
-        Placing::Refused(r) => refused(r),
+        Placing::Refused(r) => refused(rt, r),
         Placing::Bad(r) => {
-            show::text(b" no ");
-            show::number(r.0, b"");
+            show::text(rt, b" no ")?;
+            show::number(rt, r.0, b"")
         }
-        Placing::Well => show::text(b" yes"),
+        Placing::Well => show::text(rt, b" yes"),
     }
 }
 
-pub fn verdict(rows: &[u32], pairs: &[u32], bytes: &[u8]) {
-    show::text(b"verdict");
+pub fn verdict(rt: &impl Print, rows: &[u32], pairs: &[u32], bytes: &[u8]) -> io::Result<()> {
+    show::text(rt, b"verdict")?;
     match returns::verdict_of(rows, pairs, bytes) {
-        Verdict::Refused(r) => refused(r),
-        Verdict::Yes => show::text(b" yes"),
-        Verdict::No => show::text(b" no"),
+        Verdict::Refused(r) => refused(rt, r),
+        Verdict::Yes => show::text(rt, b" yes"),
+        Verdict::No => show::text(rt, b" no"),
     }
 }
 
 // A row of the sheet, if there is such a row, after a comma unless it is the first.
-fn sheet_row(sheet: &[u32], row: usize) {
+fn sheet_row(rt: &impl Print, sheet: &[u32], row: usize) -> io::Result<()> {
     if 0 < row {
-        show::text(b",");
+        show::text(rt, b",")?;
     }
     if row < sheet.len() / 4 {
-        show::text(b" ");
-        show::words(&sheet[row * 4..row * 4 + 4], b"");
+        show::text(rt, b" ")?;
+        show::words(rt, &sheet[row * 4..row * 4 + 4], b"")?;
     }
+    Ok(())
 }
 
-fn sheet_rows(sheet: &[u32], count: usize) {
+fn sheet_rows(rt: &impl Print, sheet: &[u32], count: usize) -> io::Result<()> {
     if count == 0 {
-        show::text(b" none");
+        show::text(rt, b" none")?;
     }
     let mut row = 0;
     while row < count {
-        sheet_row(sheet, row);
+        sheet_row(rt, sheet, row)?;
         row += 1;
     }
+    Ok(())
 }
 
-pub fn sheet(rows: &[u32], pairs: &[u32], bytes: &[u8]) {
+pub fn sheet(rt: &impl Print, rows: &[u32], pairs: &[u32], bytes: &[u8]) -> io::Result<()> {
     let mut sheet = [0u32; 1024];
     let mut bindings = [0u32; 128];
-    show::text(b"sheet");
+    show::text(rt, b"sheet")?;
     match label::labels(rows, pairs, bytes, &mut sheet, &mut bindings) {
-        LabelAnswer::Refused(r) => refused(r),
-        LabelAnswer::Faults(n) => sheet_rows(&sheet, n),
+        LabelAnswer::Refused(r) => refused(rt, r),
+        LabelAnswer::Faults(n) => sheet_rows(rt, &sheet, n),
     }
 }
 
 // The words of the first `count` rows, if there are so many.
-fn first(bindings: &[u32], count: usize) {
+fn first(rt: &impl Print, bindings: &[u32], count: usize) -> io::Result<()> {
     if count <= bindings.len() {
-        show::text(b" ");
-        show::words(&bindings[0..count], b"");
+        show::text(rt, b" ")?;
+        show::words(rt, &bindings[0..count], b"")?;
     }
+    Ok(())
 }
 
-pub fn bindings(rows: &[u32], pairs: &[u32], bytes: &[u8]) {
+pub fn bindings(rt: &impl Print, rows: &[u32], pairs: &[u32], bytes: &[u8]) -> io::Result<()> {
     let count = rows.len() / 5;
     let mut sheet = [0u32; 1024];
     let mut bindings = [0u32; 128];
-    show::text(b"bindings");
+    show::text(rt, b"bindings")?;
     match label::labels(rows, pairs, bytes, &mut sheet, &mut bindings) {
-        LabelAnswer::Refused(r) => refused(r),
-        LabelAnswer::Faults(_) => first(&bindings, count),
+        LabelAnswer::Refused(r) => refused(rt, r),
+        LabelAnswer::Faults(_) => first(rt, &bindings, count),
     }
 }

@@ -1,13 +1,21 @@
 // Goes through the list on standard input (README.md) and copies it to standard output, but for the
 // answer lines: in the place of each it prints the answer that it works out. So the file stdout is
 // the list too, and a line that differs is that of a body which is answered otherwise.
-use case_lines::lines;
+#![tactic(auto)]
+
 use case_lines::lines::Used;
-use libc::STDIN_FILENO;
+use case_lines::{lines, scan};
+use std::io;
 use testing::show;
 
 // Goes through the lines of a list, with room for the words and bytes of one body.
-fn all_lines(list: &[u8], rows: &mut [u32], pairs: &mut [u32], name_bytes: &mut [u8]) {
+fn all_lines(
+    rt: &impl Print,
+    list: &[u8],
+    rows: &mut [u32],
+    pairs: &mut [u32],
+    name_bytes: &mut [u8],
+) -> io::Result<()> {
     let mut used = Used {
         rows: 0,
         pairs: 0,
@@ -15,20 +23,21 @@ fn all_lines(list: &[u8], rows: &mut [u32], pairs: &mut [u32], name_bytes: &mut 
     };
     let mut at = 0;
     while at < list.len() {
-        let end = bytes::scan::find(list, at, list.len(), 10);
-        used = lines::take_line(&list[at..end], rows, pairs, name_bytes, used);
+        let end = scan::find(list, at, b'\n');
+        used = lines::take_line(rt, &list[at..end], rows, pairs, name_bytes, used)?;
         at = end + 1;
     }
+    Ok(())
 }
 
-fn main() {
+fn main(rt: HostRuntime) -> io::Result<()> {
     let mut list = [0u8; 100000];
     let mut rows = [0u32; 640];
     let mut pairs = [0u32; 64];
     let mut name_bytes = [0u8; 64];
-    let count = io::read_full(STDIN_FILENO, &mut list);
+    let count = input::read_full(&mut rt.stdin(), &mut list)?;
     if count == list.len() {
-        show::text(b"the list is too long\n");
+        show::text(&rt, b"the list is too long\n")?;
     }
-    all_lines(&list[..count], &mut rows, &mut pairs, &mut name_bytes);
+    all_lines(&rt, &list[..count], &mut rows, &mut pairs, &mut name_bytes)
 }

@@ -1,6 +1,13 @@
 // How long an input is that is read in pieces.
-ghost use Rattle.std.specs.Prelude.{◌≡◌, false, ◌+◌, ◌≤◌, ◌<◌};
+#![tactic(auto)]
+
+ghost use Rattle.std.specs.Prelude.{◌≡◌, false, ◌+◌, ◌≤◌, ◌<◌, length as length_of, take, IfOk};
+ghost use Rattle.std.specs.Io.{ReadsAtMost};
+ghost use Rattle.std.specs.Io.KnownBytes.{Consumes, IsAtEnd};
 ghost use Rattle.input.specs.Reads.{uncounted, is_last};
+
+use std::io;
+use std::io::Read;
 
 // What is known of an input: how many bytes have been read, and whether those are all. An input of
 // 2^37 bytes or more isn't counted further.
@@ -32,4 +39,21 @@ pub fn read_on(input: Input, got: usize, room: usize) -> Input
         ended = true;
     }
     Input { length, ended }
+}
+
+// Reads until `buf` is full or the input ends, and answers how many bytes were read.
+pub fn read_full<R: Read>(from: &mut R, buf: &mut [u8]) -> io::Result<usize>
+    ensures bound { ReadsAtMost result buf.new }
+    ensures bytes { IfOk result (λ n. Consumes (R.remaining from.old) (R.remaining from.new) (take n buf.new)) }
+    ensures end { IfOk result (λ n. n < length_of buf.new → IsAtEnd (R.remaining from.new)) }
+{
+    let mut done = 0;
+    while done < buf.len() {
+        let got = from.read(&mut buf[done..])?;
+        if got == 0 {
+            break;
+        }
+        done += got;
+    }
+    Ok(done)
 }

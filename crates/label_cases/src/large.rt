@@ -2,6 +2,7 @@
 // its first and last rows, and the sum of the bindings.
 use label::LabelAnswer;
 use rows::{details, kinds};
+use std::io;
 use std::num::{wrapping_add_u32, wrapping_sub_usize};
 use testing::fill::{Row, Run};
 use testing::{fill, show};
@@ -17,35 +18,43 @@ fn sum(words: &[u32]) -> u32 {
 }
 
 // One row of the sheet, if there is such a row.
-fn sheet_row(sheet: &[u32], row: usize) {
+fn sheet_row(rt: &impl Print, sheet: &[u32], row: usize) -> io::Result<()> {
     if row < sheet.len() / 4 {
-        show::words(&sheet[row * 4..row * 4 + 4], b"\n");
+        show::words(rt, &sheet[row * 4..row * 4 + 4], b"\n")?;
     }
+    Ok(())
 }
 
-fn answer(count: usize, sheet: &[u32], bindings: &[u32]) {
-    show::number(count, b"\n");
-    sheet_row(sheet, 0);
-    sheet_row(sheet, wrapping_sub_usize(count, 1));
-    show::number(sum(bindings) as usize, b"\n");
+fn answer(rt: &impl Print, count: usize, sheet: &[u32], bindings: &[u32]) -> io::Result<()> {
+    show::number(rt, count, b"\n")?;
+    sheet_row(rt, sheet, 0)?;
+    sheet_row(rt, sheet, wrapping_sub_usize(count, 1))?;
+    show::number(rt, sum(bindings) as usize, b"\n")
 }
 
-fn summary(rows: &[u32], pairs: &[u32], bytes: &[u8]) {
+fn summary(rt: &impl Print, rows: &[u32], pairs: &[u32], bytes: &[u8]) -> io::Result<()> {
     let mut sheet = [0u32; 16000];
     let mut bindings = [0u32; 2000];
     match label::labels(rows, pairs, bytes, &mut sheet, &mut bindings) {
-        LabelAnswer::Refused(r) => show::refusal(r, b"\n"),
-        LabelAnswer::Faults(n) => answer(n, &sheet, &bindings),
+        LabelAnswer::Refused(r) => show::refusal(rt, r, b"\n"),
+        LabelAnswer::Faults(n) => answer(rt, n, &sheet, &bindings),
     }
 }
 
 // The summary of a Block of the first rows.
-fn block(words: &mut [u32], count: u32, pairs: &[u32], bytes: &[u8]) {
+fn block(
+    rt: &impl Print,
+    words: &mut [u32],
+    count: u32,
+    pairs: &[u32],
+    bytes: &[u8],
+) -> io::Result<()> {
     let end = count as usize * 5;
     fill::one_row(words, 0, Row(kinds::BLOCK, 0, 0, count));
     if end <= words.len() {
-        summary(&words[0..end], pairs, bytes);
+        summary(rt, &words[0..end], pairs, bytes)?;
     }
+    Ok(())
 }
 
 // Labels from row `first` on, `count` of them, each on a statement of one row. Each has a name larger
@@ -63,16 +72,16 @@ fn labels(words: &mut [u32], first: u32, count: u32, more: u32, on: Row) {
 }
 
 // 999 times `L: goto L`, and an Empty.
-fn labels_and_gotos(words: &mut [u32]) {
-    show::line(b"999 L: goto L");
+fn labels_and_gotos(rt: &impl Print, words: &mut [u32]) -> io::Result<()> {
+    show::line(rt, b"999 L: goto L")?;
     labels(words, 1, 999, 0, Row(kinds::BRANCH, details::GOTO, 1, 1));
     fill::one_row(words, 1999, Row(kinds::EMPTY, 0, 0, 1));
-    block(words, 2000, &[0u32, 1], b"L");
+    block(rt, words, 2000, &[0u32, 1], b"L")
 }
 
 // 999 times `goto L`, then 500 times `L:` with an Empty.
-fn gotos_then_labels(words: &mut [u32]) {
-    show::line(b"999 goto L, then 500 L:");
+fn gotos_then_labels(rt: &impl Print, words: &mut [u32]) -> io::Result<()> {
+    show::line(rt, b"999 goto L, then 500 L:")?;
     fill::rows(
         words,
         Run(1, 1, 999),
@@ -81,22 +90,22 @@ fn gotos_then_labels(words: &mut [u32]) {
         0,
     );
     labels(words, 1000, 500, 0, Row(kinds::EMPTY, 0, 0, 1));
-    block(words, 2000, &[0u32, 1], b"L");
+    block(rt, words, 2000, &[0u32, 1], b"L")
 }
 
 // 500 labels with an Empty each, of 500 names; none is used.
-fn many_names(words: &mut [u32]) {
-    show::line(b"500 names");
+fn many_names(rt: &impl Print, words: &mut [u32]) -> io::Result<()> {
+    show::line(rt, b"500 names")?;
     let mut pairs = [0u32; 1000];
     let mut bytes = [0u8; 1000];
     fill::pairs(&mut pairs, 500, 2);
     fill::names(&mut bytes);
     labels(words, 1, 500, 1, Row(kinds::EMPTY, 0, 0, 1));
-    block(words, 1001, &pairs, &bytes);
+    block(rt, words, 1001, &pairs, &bytes)
 }
 
-pub fn bodies(words: &mut [u32]) {
-    labels_and_gotos(words);
-    gotos_then_labels(words);
-    many_names(words);
+pub fn bodies(rt: &impl Print, words: &mut [u32]) -> io::Result<()> {
+    labels_and_gotos(rt, words)?;
+    gotos_then_labels(rt, words)?;
+    many_names(rt, words)
 }

@@ -1,6 +1,8 @@
 // `marks`: reads the file of a body from standard input and prints its marks, or its refusal.
-use libc::{STDIN_FILENO, STDOUT_FILENO};
+#![tactic(auto)]
 
-fn main() {
-    filter::marks(STDIN_FILENO, STDOUT_FILENO);
+use std::io;
+
+fn main(rt: HostRuntime) -> io::Result<()> {
+    filter::marks(&mut rt.stdin(), &mut rt.stdout())
 }

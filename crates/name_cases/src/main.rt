@@ -1,66 +1,64 @@
 // Names: the bytes of each number, which names are the same, and the numbers sorted, with 500 names
 // that share a long prefix. The answers in the file stdout were written by hand from document 01 and
 // its order of the bytes.
-use libc::STDOUT_FILENO;
+#![tactic(auto)]
+
 use names::NameNumber;
+use std::io;
 
-fn text(bytes: &[u8]) {
-    io::write_all(STDOUT_FILENO, bytes);
-}
-
-fn number(n: u16) {
-    io::print_decimal(STDOUT_FILENO, n as u64);
-    text(b"\n");
+fn number(rt: &impl Print, n: u16) -> io::Result<()> {
+    println!(rt; "{n}")
 }
 
 // The bytes of a name between two bars.
-fn show_name(pairs: &[u32], bytes: &[u8], n: usize) {
-    text(b"|");
-    text(names::name_bytes(pairs, bytes, NameNumber(n)));
-    text(b"|\n");
+fn show_name(rt: &impl Print, pairs: &[u32], bytes: &[u8], n: usize) -> io::Result<()> {
+    print!(rt; "|")?;
+    rt.write_all(names::name_bytes(pairs, bytes, NameNumber(n)))?;
+    println!(rt; "|")
 }
 
 // The four names ab, a, ab and z by number, with 0, 5 and the largest number.
-fn lookups() {
-    text(b"bytes\n");
+fn lookups(rt: &impl Print) -> io::Result<()> {
+    println!(rt; "bytes")?;
     let pairs = [0u32, 2, 2, 1, 3, 2, 5, 1];
-    show_name(&pairs, b"abaabz", 0);
-    show_name(&pairs, b"abaabz", 1);
-    show_name(&pairs, b"abaabz", 2);
-    show_name(&pairs, b"abaabz", 3);
-    show_name(&pairs, b"abaabz", 4);
-    show_name(&pairs, b"abaabz", 5);
-    show_name(&pairs, b"abaabz", 18446744073709551615);
+    show_name(rt, &pairs, b"abaabz", 0)?;
+    show_name(rt, &pairs, b"abaabz", 1)?;
+    show_name(rt, &pairs, b"abaabz", 2)?;
+    show_name(rt, &pairs, b"abaabz", 3)?;
+    show_name(rt, &pairs, b"abaabz", 4)?;
+    show_name(rt, &pairs, b"abaabz", 5)?;
+    show_name(rt, &pairs, b"abaabz", 18446744073709551615)
 }
 
 // Pairs that are refused have no names: odd words; a pair before the previous end; one past the
 // bytes.
-fn refused() {
-    text(b"refused\n");
-    show_name(&[0u32, 1, 1], b"ab", 1);
-    show_name(&[0u32, 2, 1, 1], b"ab", 1);
-    show_name(&[0u32, 1, 1, 2], b"ab", 1);
+fn refused(rt: &impl Print) -> io::Result<()> {
+    println!(rt; "refused")?;
+    show_name(rt, &[0u32, 1, 1], b"ab", 1)?;
+    show_name(rt, &[0u32, 2, 1, 1], b"ab", 1)?;
+    show_name(rt, &[0u32, 1, 1, 2], b"ab", 1)
 }
 
-fn show_same(pairs: &[u32], bytes: &[u8], a: usize, b: usize) {
+fn show_same(rt: &impl Print, pairs: &[u32], bytes: &[u8], a: usize, b: usize) -> io::Result<()> {
     if names::names_ok(pairs, bytes) {
         if names::same_name(pairs, bytes, NameNumber(a), NameNumber(b)) {
-            text(b"same\n");
+            println!(rt; "same")?;
         } else {
-            text(b"other\n");
+            println!(rt; "other")?;
         }
     }
+    Ok(())
 }
 
 // ab and ab under two numbers; ab and a; a and ab; 1 and 1; none and none.
-fn same() {
-    text(b"same name\n");
+fn same(rt: &impl Print) -> io::Result<()> {
+    println!(rt; "same name")?;
     let pairs = [0u32, 2, 2, 1, 3, 2];
-    show_same(&pairs, b"abaab", 1, 3);
-    show_same(&pairs, b"abaab", 1, 2);
-    show_same(&pairs, b"abaab", 2, 3);
-    show_same(&pairs, b"abaab", 1, 1);
-    show_same(&pairs, b"abaab", 0, 4);
+    show_same(rt, &pairs, b"abaab", 1, 3)?;
+    show_same(rt, &pairs, b"abaab", 1, 2)?;
+    show_same(rt, &pairs, b"abaab", 2, 3)?;
+    show_same(rt, &pairs, b"abaab", 1, 1)?;
+    show_same(rt, &pairs, b"abaab", 0, 4)
 }
 
 fn sort(pairs: &[u32], bytes: &[u8], names: &mut [u16], spare: &mut [u16]) {
@@ -72,21 +70,21 @@ fn sort(pairs: &[u32], bytes: &[u8], names: &mut [u16], spare: &mut [u16]) {
 }
 
 // The bytes of a name whose number was sorted.
-fn show_number(pairs: &[u32], bytes: &[u8], n: u16) {
-    show_name(pairs, bytes, n as usize);
+fn show_number(rt: &impl Print, pairs: &[u32], bytes: &[u8], n: u16) -> io::Result<()> {
+    show_name(rt, pairs, bytes, n as usize)
 }
 
 // ab, a, ab and z by number: a comes first, then ab twice, in whichever order, then z.
-fn few() {
-    text(b"sorted\n");
+fn few(rt: &impl Print) -> io::Result<()> {
+    println!(rt; "sorted")?;
     let pairs = [0u32, 2, 2, 1, 3, 2, 5, 1];
     let mut names = [1u16, 2, 3, 4];
     let mut spare = [0u16; 4];
     sort(&pairs, b"abaabz", &mut names, &mut spare);
-    show_number(&pairs, b"abaabz", names[0]);
-    show_number(&pairs, b"abaabz", names[1]);
-    show_number(&pairs, b"abaabz", names[2]);
-    show_number(&pairs, b"abaabz", names[3]);
+    show_number(rt, &pairs, b"abaabz", names[0])?;
+    show_number(rt, &pairs, b"abaabz", names[1])?;
+    show_number(rt, &pairs, b"abaabz", names[2])?;
+    show_number(rt, &pairs, b"abaabz", names[3])
 }
 
 // Pairs of 16 bytes each, one after the other.
@@ -171,8 +169,8 @@ fn wrong(names: &[u16], first: u16, step: u16) -> u16 {
 // 500 names of 16 bytes that share 14, from the last to the first: the numbers come out turned
 // round, and adding 65535 counts down by one. It prints the first two, the last, and how many are
 // wrong.
-fn many() {
-    text(b"500 names\n");
+fn many(rt: &impl Print) -> io::Result<()> {
+    println!(rt; "500 names")?;
     let mut bytes = [120u8; 8000];
     let mut pairs = [0u32; 1000];
     let mut names = [0u16; 500];
@@ -181,29 +179,29 @@ fn many() {
     fill_pairs(&mut pairs);
     fill_numbers(&mut names);
     sort(&pairs, &bytes, &mut names, &mut spare);
-    number(names[0]);
-    number(names[1]);
-    number(names[499]);
-    number(wrong(&names, 500, 65535));
+    number(rt, names[0])?;
+    number(rt, names[1])?;
+    number(rt, names[499])?;
+    number(rt, wrong(&names, 500, 65535))
 }
 
 // 500 equal names come in any order, and none is lost.
-fn equal() {
-    text(b"500 equal names\n");
+fn equal(rt: &impl Print) -> io::Result<()> {
+    println!(rt; "500 equal names")?;
     let mut pairs = [0u32; 1000];
     let mut names = [0u16; 500];
     let mut spare = [0u16; 500];
     fill_pairs(&mut pairs);
     fill_numbers(&mut names);
     sort(&pairs, &[120u8; 8000], &mut names, &mut spare);
-    number(missing(&names));
+    number(rt, missing(&names))
 }
 
-fn main() {
-    lookups();
-    refused();
-    same();
-    few();
-    many();
-    equal();
+fn main(rt: HostRuntime) -> io::Result<()> {
+    lookups(&rt)?;
+    refused(&rt)?;
+    same(&rt)?;
+    few(&rt)?;
+    many(&rt)?;
+    equal(&rt)
 }

@@ -2,30 +2,35 @@
 // Standard input is the list: for each body the length of its file, the file, the length of the
 // output that is due, and that output; the length 4,294,967,295 ends it. Printed: the number of each
 // body that `report` answers otherwise, then how many bodies there were and how many of them differ.
-ghost use Rattle.std.specs.Prelude.{◌≤◌};
+#![tactic(auto)]
+
+ghost use Rattle.std.specs.Prelude.{◌≤◌, IfOk};
+ghost use Rattle.std.specs.Io.{ReadsAtMost};
 ghost use Rattle.io.specs.Counts.{IsPrefixLen};
 
-use libc::{STDIN_FILENO, STDOUT_FILENO};
+use std::io;
+use std::io::Read;
 
 // The length that comes next, or 4,294,967,295 where the list ends.
-fn next_length() -> u32 {
+fn next_length(list: &mut impl Read) -> io::Result<u32> {
     let mut word = [0u8; 4];
-    if io::read_full(STDIN_FILENO, &mut word) < 4 {
-        return 4294967295;
+    if input::read_full(list, &mut word)? < 4 {
+        return Ok(4294967295);
     }
-    bodyfile::word(&word, 0)
+    Ok(bodyfile::word(&word, 0))
 }
 
 // Reads `count` bytes and keeps none.
-fn pass_over(count: usize) {
+fn pass_over(list: &mut impl Read, count: usize) -> io::Result<()> {
     let mut byte = [0u8; 1];
     let mut left = count;
     while 0 < left {
-        if io::read_full(STDIN_FILENO, &mut byte) == 0 {
-            return;
+        if input::read_full(list, &mut byte)? == 0 {
+            return Ok(());
         }
         left -= 1;
     }
+    Ok(())
 }
 
 // How many of `count` bytes `part` has room for.
@@ -41,54 +46,50 @@ fn room(count: usize, part: &[u8]) -> usize
 }
 
 // Reads `count` bytes, keeps as many as `part` has room for, and answers how many it kept.
-fn next_part(count: usize, part: &mut [u8]) -> usize
-    ensures { IsPrefixLen result part.new }
+fn next_part(list: &mut impl Read, count: usize, part: &mut [u8]) -> io::Result<usize>
+    ensures { ReadsAtMost result part.new }
 {
     let n = room(count, part);
-    let kept = io::read_full(STDIN_FILENO, &mut part[..n]);
-    pass_over(count - n);
-    room(kept, part)
+    let kept = input::read_full(list, &mut part[..n])?;
+    pass_over(list, count - n)?;
+    Ok(room(kept, part))
 }
 
 // Whether the output for the next body, whose file has this length, is the one that is due.
-fn as_due(length: u32) -> bool {
+fn as_due(list: &mut impl Read, length: u32) -> io::Result<bool> {
     let mut file = [0u8; 52012];
     let mut due = [0u8; 210000];
     let mut out = [0u8; 210000];
-    let kept = next_part(length as usize, &mut file);
-    let due_end = next_part(next_length() as usize, &mut due);
+    let kept = next_part(list, length as usize, &mut file)?;
+    let due_length = next_length(list)?;
+    let due_end = next_part(list, due_length as usize, &mut due)?;
     let out_end = report::report(&file[..kept], length as u64, &mut out);
-    names::order::same_bytes(&out[..out_end], &due[..due_end])
-}
-
-fn line(title: &[u8], number: u64) {
-    io::write_all(STDOUT_FILENO, title);
-    io::print_decimal(STDOUT_FILENO, number);
-    io::write_all(STDOUT_FILENO, b"\n");
+    Ok(names::order::same_bytes(&out[..out_end], &due[..due_end]))
 }
 
 // Replays one body: 1 where the output differs from what is due, which is printed, else 0.
-fn replay(length: u32, body: u64) -> u64
-    ensures { result ≤ 1 }
+fn replay(rt: &impl Print, list: &mut impl Read, length: u32, body: u64) -> io::Result<u64>
+    ensures { IfOk result (λ n. n ≤ 1) }
 {
-    if as_due(length) {
-        return 0;
+    if as_due(list, length)? {
+        return Ok(0);
     }
-    line(b"differs: body ", body);
-    1
+    println!(rt; "differs: body {body}")?;
+    Ok(1)
 }
 
-fn main() {
+fn main(rt: HostRuntime) -> io::Result<()> {
+    let mut list = rt.stdin();
     let mut bodies = 0u64;
     let mut differ = 0u64;
     while bodies < 1000000 {
-        let length = next_length();
+        let length = next_length(&mut list)?;
         if length == 4294967295 {
             break;
         }
-        differ += replay(length, bodies);
+        differ += replay(&rt, &mut list, length, bodies)?;
         bodies += 1;
     }
-    line(b"bodies ", bodies);
-    line(b"differ ", differ);
+    println!(rt; "bodies {bodies}")?;
+    println!(rt; "differ {differ}")
 }

@@ -136,23 +136,23 @@ module _ {w p b : List ℕ} (body : Body w p b) where
 
   -- the item s is the last that is no Empty
   module _ {e s : ℕ} (full : class w s ≡ empty → ⊥) (rest : only_empty w (end w s) e ≡ true) where
-    list-by-item : {c : ℕ} → Closed w c e → Item w e c s → is_terminating_list w p b e c ≡ is_terminating_body w p b s
-    list-by-item {c} a (here l) =
+    list-by-item : {c : ℕ} → Item w e c s → Closed w c e → is_terminating_list w p b e c ≡ is_terminating_body w p b s
+    list-by-item {c} (here l) a =
         let f : ℕ = 2 * (e - c) in
         let h : c < row_count w = omega (arith, a.within) in
         let n = (closed-rest body a l).order in
         sym (at_list (suc f) e c a (omega arith)) ∙ list-last w p b f e c l rest ∙ at_row f c h (omega arith)
-    list-by-item {c} a (later l i) =
+    list-by-item {c} (later l i) a =
         let f : ℕ = 2 * (e - c) in
         let h : c < row_count w = omega (arith, a.within) in
         let n = body.sized.some_rows c h in
         let m = closed-rest body a l in
         let more : only_empty w (end w c) e ≡ false =
         case-of (only_empty w (end w c) e) (λ t. absurd (full (only-empty w (end w c) e t s (item_from i) (item-before i)))) (λ t. t) in
-        sym (at_list (suc f) e c a (omega arith)) ∙ list-more w p b f e c l more ∙ at_list f e (end w c) m (omega arith) ∙ list-by-item m i
+        sym (at_list (suc f) e c a (omega arith)) ∙ list-more w p b f e c l more ∙ at_list f e (end w c) m (omega arith) ∙ list-by-item i m
 
   pub last-answer : {c e s : ℕ} → Closed w c e → Last w c e s → {t : Bool} → t ≡ is_terminating_body w p b s → t ≡ is_terminating_list w p b e c
-  last-answer a l q = q ∙ sym (list-by-item l.no_empty l.rest a l.item)
+  last-answer a l q = q ∙ sym (list-by-item l.no_empty l.rest l.item a)
 
   -- ---- the clauses
   pub clauses-ended : (e c : ℕ) → e ≤ c → clauses_end w p b e c ≡ true

@@ -9,7 +9,6 @@ use native.Mathlib.Omega.{arith}
 use native.Mathlib.Decide.{dec_lt}
 use Rattle.rules.specs.Rows.{row_count, size, end}
 use Rattle.rules.specs.Class.{class}
-use Rattle.rules.specs.Refusals.{body}
 use Rattle.rules.specs.Scope.{only_empty}
 use Rattle.rules.specs.Verdict.{any_default, has_default, has_own_break, terminating, terminating_list, terminating_clauses}
 use Rattle.rules.specs.Body.{Body, OneChild, TwoChildren}

@@ -4,3 +4,4 @@ pub mod Calls
 pub mod Clauses
 pub mod RowRule
 pub mod SwitchRule
+pub mod LastItem

@@ -58,35 +58,3 @@ module _ {w : List ℕ} (sized : Sized w) (inside : (p c : ℕ) → p < row_coun
       let both = true-and (is_default (base w s.earlier)) (same_parent w s.earlier r) s.earlier_default same in
       let found = some-counted (beside w r) r s.earlier s.before both in
       true-and (is_default (base w r)) (ltb 0 (how_many (beside w r) r)) s.default (lt-ltb 0 (how_many (beside w r) r) found)
-
-  -- none is found: of the children of each row at most one is a default clause
-  pub one_default : lowest (second_default w) (row_count w) ≡ none → (p : ℕ) → p < row_count w → OneDefault w p
-  one_default e p l r s =
-      let h : r < row_count w = omega (arith, item-before s.child, sized.within p l) in
-      let t = child-second p r l s in
-      let f = lowest-none (second_default w) (row_count w) r e h in absurd (clash (cc))
-
--- ---- back, from the Blocks of switches and Selects alone
-
--- a default clause stays one whatever row it follows
-following-default : (b c : Class) → is_default c ≡ true → is_default (following b c) ≡ true
-unfolding every lowest
-following-default b c = implied (is_default c) (is_default (following b c)) (of-classes (λ b c. implies (is_default c) (is_default (following b c))) refl b c)
-
-class-default : (w : List ℕ) (r : ℕ) → is_default (base w r) ≡ true → is_default (class w r) ≡ true
-unfolding class
-class-default w zero t = t
-class-default w (suc q) t = following-default (base w q) (base w (suc q)) t
-
-holds-default : (p c : Class) → is_default c ≡ true → fits p c ≡ true → is_clause_block p ≡ true
-unfolding every lowest
-holds-default = parent-rule is_default is_clause_block refl
-
-pub none-second : (w : List ℕ) (sized : Sized w) (detailed : Detailed w) (shaped : (r : ℕ) → r < row_count w → bad_shape w r ≡ false)
-    → ((p : ℕ) → p < row_count w → is_clause_block (class w p) ≡ true → OneDefault w p) → (r : ℕ) → r < row_count w → second_default w r ≡ false
-none-second w sized detailed shaped one r l = case-of (second_default w r)
-    (λ t.
-    let (p, h, s) = second-child sized (child_within w sized detailed shaped) r l t in
-    let f = child_fits w sized detailed shaped p r h s.child in
-    absurd (one p h (holds-default (class w p) (class w r) (class-default w r s.default) f) r s))
-    (λ f. f)

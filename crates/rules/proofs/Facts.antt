@@ -21,7 +21,7 @@ use Rattle.rules.proofs.Pairs.{names-ok}
 use Rattle.rules.proofs.Causes.{no-cause}
 use Rattle.rules.proofs.Nesting as nesting
 use Rattle.rules.proofs.Shape as shape
-use Rattle.rules.proofs.Defaults.{one_default}
+use Rattle.rules.proofs.NoSecond.{one_default}
 
 -- ---- cause 1
 pub record RowWords (w : List ℕ) : Type 0 where

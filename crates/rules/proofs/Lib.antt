@@ -13,6 +13,7 @@ pub mod Classes
 pub mod Children
 pub mod Shape
 pub mod Defaults
+pub mod NoSecond
 pub mod Facts
 pub mod DefaultsUsed
 pub mod Tried
@@ -45,6 +46,7 @@ pub mod Placed
 pub mod Fallthrough
 pub mod TallyBodies
 pub mod Tally
+pub mod TallyCall
 pub mod TallyUsed
 pub mod Destinations
 pub mod RouteSteps

@@ -303,25 +303,9 @@ words-rows (f ∷ fs) rest =
     (λ i h. ap is_unbound (next-fault f (fault_words fs ++ rest) i)) in
     omega (arith, count-first (λ i. is_unbound (get_or s (i * 4) 0)) (length fs), later, words-rows fs rest, rows-cons f fs)
 
-first-words : (w p b rest : List ℕ) → bound_branches w (bindings w p b ++ rest) ≡ bound_branches w (bindings w p b)
+pub first-words : (w p b rest : List ℕ) → bound_branches w (bindings w p b ++ rest) ≡ bound_branches w (bindings w p b)
 unfolding bound_branches bindings
 first-words w p b rest = how_many-same
     (λ r. is_branch_row w r && ltb 0 (get_or (bindings w p b ++ rest) r 0)) (λ r. is_branch_row w r && ltb 0 (get_or (bindings w p b) r 0)) (row_count w)
     (λ r h. ap (λ (v : ℕ). is_branch_row w r && ltb 0 v)
     (get_or-append (bindings w p b) rest 0 r (omega (arith, each-length (binding w p b) (row_count w)))))
-
--- both buffers begin with what was written
-call-sums : {w p b s t : List ℕ} {n : ℕ} → Counted w p b s t n
-    → labelled_branches w ≡ bound_branches w (label_call w p b s t).binding_words + unbound_words n (label_call w p b s t).sheet_words
-call-sums {w} {p} {b} {s} {t} c =
-    let sheet-left = drop (length (fault_words (sheet w p b))) s in
-    let bindings-left = drop (length (bindings w p b)) t in
-    rw (c.left, c.count) (omega (
-      arith,
-      tally-law w p b c.well_formed,
-      first-words w p b bindings-left,
-      words-rows (sheet w p b) sheet-left,
-    ))
-
-pub call-tally : (w p b s t : List ℕ) → CallTally w p b s t
-call-tally w p b s t n e = call-sums (label-counted w p b s t n e)

@@ -21,7 +21,8 @@ use Rattle.rules.proofs.Computed.{computed}
 use Rattle.rules.proofs.Test.{case-of, and-true, true-and}
 use Rattle.rules.proofs.Scan.{how_many-lt}
 use Rattle.rules.proofs.TallyBodies.{several_branches}
-use Rattle.rules.proofs.Tally.{tally-law, call-tally, words-rows, word-labelled}
+use Rattle.rules.proofs.Tally.{tally-law, words-rows, word-labelled}
+use Rattle.rules.proofs.TallyCall.{call-tally}
 
 -- rows of kind 11 with a name, and with a nonzero word
 abbrev named : List ℕ → ℕ → Bool

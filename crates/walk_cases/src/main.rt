@@ -1,66 +1,82 @@
 // Walks of bodies that loops make: over the most rows, the most clauses and the deepest bodies, by the
 // most choices and for the most steps. The answers in the file stdout were written from documents 01
 // and 02. The bodies that are lists of rows are in crates/cases.
+#![tactic(auto)]
+
 use case_lines::walks;
 use rows::kinds;
+use std::io;
 use testing::fill::{Row, Run};
 use testing::{fill, show};
 
 // The walk of a Block of the first rows.
-fn walk(words: &mut [u32], count: u32, choices: &[u32], limit: usize) {
+fn walk(
+    rt: &impl Print,
+    words: &mut [u32],
+    count: u32,
+    choices: &[u32],
+    limit: usize,
+) -> io::Result<()> {
     let end = count as usize * 5;
     fill::one_row(words, 0, Row(kinds::BLOCK, 0, 0, count));
     if end <= words.len() {
-        show::text(b"walk:");
-        walks::answer(runner::walk(&words[0..end], &[0u32; 0], b"", choices, limit));
-        show::text(b"\n");
+        show::text(rt, b"walk:")?;
+        walks::answer(
+            rt,
+            runner::walk(&words[0..end], &[0u32; 0], b"", choices, limit),
+        )?;
+        show::text(rt, b"\n")?;
     }
+    Ok(())
 }
 
 // 1,999 Empties: a route of 2,000 steps.
-fn flat(words: &mut [u32]) {
-    show::line(b"1,999 Empties, to the brace and one step short");
+fn flat(rt: &impl Print, words: &mut [u32]) -> io::Result<()> {
+    show::line(rt, b"1,999 Empties, to the brace and one step short")?;
     fill::rows(words, Run(1, 1, 1999), Row(kinds::EMPTY, 0, 0, 1), 0, 0);
-    walk(words, 2000, &[0u32; 0], 2000);
-    walk(words, 2000, &[0u32; 0], 1999);
+    walk(rt, words, 2000, &[0u32; 0], 2000)?;
+    walk(rt, words, 2000, &[0u32; 0], 1999)
 }
 
 // 999 times `if c {}`, and an Empty.
-fn ifs(words: &mut [u32]) {
+fn ifs(rt: &impl Print, words: &mut [u32]) -> io::Result<()> {
     let mut choices = [1u32; 1000];
-    show::line(b"999 Ifs by 1,000 choices, by 998, and with choice 500 out of range");
+    show::line(
+        rt,
+        b"999 Ifs by 1,000 choices, by 998, and with choice 500 out of range",
+    )?;
     fill::rows(words, Run(1, 2, 999), Row(kinds::IF, 0, 0, 2), 0, 0);
     fill::rows(words, Run(2, 2, 999), Row(kinds::BLOCK, 0, 0, 1), 0, 0);
     fill::one_row(words, 1999, Row(kinds::EMPTY, 0, 0, 1));
-    walk(words, 2000, &choices, 5000);
-    walk(words, 2000, &choices[0..998], 5000);
+    walk(rt, words, 2000, &choices, 5000)?;
+    walk(rt, words, 2000, &choices[0..998], 5000)?;
     choices[500] = 2;
-    walk(words, 2000, &choices, 5000);
+    walk(rt, words, 2000, &choices, 5000)
 }
 
 // A switch of 1,997 Cases.
-fn cases(words: &mut [u32]) {
-    show::line(b"1,997 Cases, by the last, past it, and out of range");
+fn cases(rt: &impl Print, words: &mut [u32]) -> io::Result<()> {
+    show::line(rt, b"1,997 Cases, by the last, past it, and out of range")?;
     fill::one_row(words, 1, Row(kinds::SWITCH, 0, 0, 1999));
     fill::one_row(words, 2, Row(kinds::BLOCK, 0, 0, 1998));
     fill::rows(words, Run(3, 1, 1997), Row(kinds::CASE, 0, 0, 1), 0, 0);
-    walk(words, 2000, &[1996u32], 2);
-    walk(words, 2000, &[1997u32], 9);
-    walk(words, 2000, &[1998u32], 9);
+    walk(rt, words, 2000, &[1996u32], 2)?;
+    walk(rt, words, 2000, &[1997u32], 9)?;
+    walk(rt, words, 2000, &[1998u32], 9)
 }
 
 // `for` with 1,997 statements, for more steps than could be made one by one.
-fn rounds(words: &mut [u32]) {
-    show::line(b"a For of 1,997 rows, for the most steps");
+fn rounds(rt: &impl Print, words: &mut [u32]) -> io::Result<()> {
+    show::line(rt, b"a For of 1,997 rows, for the most steps")?;
     fill::one_row(words, 1, Row(kinds::FOR, 0, 0, 1999));
     fill::one_row(words, 2, Row(kinds::BLOCK, 0, 0, 1998));
     fill::rows(words, Run(3, 1, 1997), Row(kinds::EXPR, 0, 0, 1), 0, 0);
-    walk(words, 2000, &[0u32; 0], 18446744073709551615);
-    walk(words, 2000, &[0u32; 0], 18446744073709551614);
+    walk(rt, words, 2000, &[0u32; 0], 18446744073709551615)?;
+    walk(rt, words, 2000, &[0u32; 0], 18446744073709551614)
 }
 
 // Blocks, each in the one before.
-fn nested(words: &mut [u32], count: u32) {
+fn nested(rt: &impl Print, words: &mut [u32], count: u32) -> io::Result<()> {
     fill::rows(
         words,
         Run(0, 1, count),
@@ -68,16 +84,16 @@ fn nested(words: &mut [u32], count: u32) {
         0,
         1,
     );
-    walk(words, count, &[0u32; 0], 5000);
+    walk(rt, words, count, &[0u32; 0], 5000)
 }
 
-fn main() {
+fn main(rt: HostRuntime) -> io::Result<()> {
     let mut words = [0u32; 10000];
-    flat(&mut words);
-    ifs(&mut words);
-    cases(&mut words);
-    rounds(&mut words);
-    show::line(b"100 and 101 Blocks deep");
-    nested(&mut words, 100);
-    nested(&mut words, 101);
+    flat(&rt, &mut words)?;
+    ifs(&rt, &mut words)?;
+    cases(&rt, &mut words)?;
+    rounds(&rt, &mut words)?;
+    show::line(&rt, b"100 and 101 Blocks deep")?;
+    nested(&rt, &mut words, 100)?;
+    nested(&rt, &mut words, 101)
 }

@@ -9,35 +9,35 @@ use Rattle.shape.specs.Held.{held}
 use Rattle.shape.specs.declared.Holding.{Holding}
 use Rattle.afters.proofs.Places.{holds_list, list-holds}
 use Rattle.afters.proofs.is_list.Goals as goal
-use Rattle.afters.proofs.is_list.Tie as tie
+use Rattle.afters.proofs.is_list.Goals.{After-holding_at}
 
 pub holding_at-requires : goal.holding_at-requires
 holding_at-requires c = (c.requires.0, λ k h. c.requires.1 k (omega (arith, c.requires.0)))
 
-abbrev row-class : tie.After-holding_at → Class
+abbrev row-class : After-holding_at → Class
 row-class c = class c.args.rows.now c.args.row.0
 
 -- what an arm says of the row's class
-arm : (c : tie.After-holding_at) (g : Holding) → c.holding_at.result ≡ g → holds_list (held g) ≡ is_list (row-class c)
+arm : (c : After-holding_at) (g : Holding) → c.holding_at.result ≡ g → holds_list (held g) ≡ is_list (row-class c)
 arm c g e = ap holds_list (sym (ap held e) ∙ c.holding_at.ensures) ∙ list-holds (row-class c)
 
 pub returns-in-Nothing : goal.returns-in-Nothing
-returns-in-Nothing c = arm c.before.before.before _ c.in-Nothing.is
+returns-in-Nothing c = arm (goal.at.returns-in-Nothing c).After-holding_at _ c.in-Nothing.is
 
 pub returns-in-Statement : goal.returns-in-Statement
-returns-in-Statement c = arm c.before.before.before _ c.in-Statement.is
+returns-in-Statement c = arm (goal.at.returns-in-Statement c).After-holding_at _ c.in-Statement.is
 
 pub returns-in-Body : goal.returns-in-Body
-returns-in-Body c = arm c.before.before.before _ c.in-Body.is
+returns-in-Body c = arm (goal.at.returns-in-Body c).After-holding_at _ c.in-Body.is
 
 pub returns-in-Branches : goal.returns-in-Branches
-returns-in-Branches c = arm c.before.before.before _ c.in-Branches.is
+returns-in-Branches c = arm (goal.at.returns-in-Branches c).After-holding_at _ c.in-Branches.is
 
 pub returns-in-Statements : goal.returns-in-Statements
-returns-in-Statements c = arm c.before.before.before _ c.in-Statements.is
+returns-in-Statements c = arm (goal.at.returns-in-Statements c).After-holding_at _ c.in-Statements.is
 
 pub returns-in-Cases : goal.returns-in-Cases
-returns-in-Cases c = arm c.before.before.before _ c.in-Cases.is
+returns-in-Cases c = arm (goal.at.returns-in-Cases c).After-holding_at _ c.in-Cases.is
 
 pub returns-in-Comms : goal.returns-in-Comms
-returns-in-Comms c = arm c.before.before.before _ c.in-Comms.is
+returns-in-Comms c = arm (goal.at.returns-in-Comms c).After-holding_at _ c.in-Comms.is

@@ -17,7 +17,7 @@ row_allowed-requires c = omega arith
 pub returns-then-not-row_allowed : goal.returns-then-not-row_allowed
 returns-then-not-row_allowed c =
     sym (found-lowest _ _ _ c.loop-r-test.true
-    (not-false _ (sym (c.row_allowed.ensures _ refl) ∙ not-true _ c.if-not-row_allowed.true)) c.loop-r.invariant.1)
+    (not-false _ (sym (c.row_allowed.ensures _ refl) ∙ c.if-not-row_allowed.true)) c.loop-r.invariant.1)
 
 pub overflow_add-r : goal.overflow_add-r
 overflow_add-r c = omega arith
@@ -29,7 +29,7 @@ pub loop-r-preserved : goal.loop-r-preserved
 loop-r-preserved c = (
   omega arith,
   below_more _ _ c.loop-r.invariant.1
-      (not-true _ (sym (c.row_allowed.ensures _ refl) ∙ not-false _ c.if-not-row_allowed.false)),
+      (not-true _ (sym (c.row_allowed.ensures _ refl) ∙ c.if-not-row_allowed.false)),
 )
 
 pub returns : goal.returns

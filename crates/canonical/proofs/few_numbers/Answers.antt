@@ -1,7 +1,6 @@
 -- `few_numbers` meets its contract: up to 31 names have room in tables of 32.
 -- Assumes nothing.
 use native.Mathlib.Omega.{arith}
-use borrow.Author.Rules.{rules}
 use Rattle.canonical.proofs.Zeros.{zeros}
 use Rattle.canonical.proofs.few_numbers.Goals as goal
 

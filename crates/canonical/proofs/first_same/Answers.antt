@@ -1,10 +1,8 @@
 use mathlib.Core.Path.{◌∙◌}
-use mathlib.Core.Logic.{⊎_elim}
 use native.Mathlib.Omega.{arith}
-use lib.ListN.{length}
-use borrow.Author.Rules.{rules}
-use Rattle.canonical.proofs.Chain.{Chain, chain-start, chain-falls, chain-found, chain_next, chain-other, chain-end}
+use Rattle.canonical.proofs.Chain.{chain-start, chain-falls, chain-found, chain_next, chain-other, chain-end}
 use Rattle.canonical.proofs.first_same.Goals as goal
+use Rattle.canonical.proofs.first_same.Goals.{then-keys-m+else-same_name, else-keys-m}
 
 pub loop-m-init : goal.loop-m-init
 loop-m-init c =
@@ -24,11 +22,12 @@ loop-m-preserved c =
     let i = c.loop-m.invariant in
     let z = c.loop-m-test.true in
     let k = c.requires.key_value in
-    rw c.wide_number-m-in-loop-m.ensures
-    (⊎_elim
-    (λ a. chain_next _ _ _ _ _ _ _ _ c.requires.heads.1 _ i z _ k.0 k.1 _ a.1.ensures a.2.left)
-    (λ a. chain-other _ _ _ _ _ _ _ _ c.requires.heads.1 _ i z _ k.0 k.1 a.left)
-    c.if-keys-m.branch)
+    rw c.wide_number-m-in-loop-m.ensures (elim c.if-keys-m.branch [
+      | then-keys-m+else-same_name w ↦
+          chain_next _ _ _ _ _ _ _ _ c.requires.heads.1 _ i z _ k.0 k.1 _ w.same_name.ensures w.if-same_name.false
+      | else-keys-m w ↦
+          chain-other _ _ _ _ _ _ _ _ c.requires.heads.1 _ i z _ k.0 k.1 w.if-keys-m.false
+    ])
 
 pub returns : goal.returns
 returns c =

@@ -1,9 +1,7 @@
 use mathlib.Core.Path.{◌≡◌, sym}
-use Prim.Native.Nat.{◌-◌, ◌<◌, ◌≤◌}
+use Prim.Native.Nat.{◌-◌}
 use native.Mathlib.Omega.{arith}
-use lib.ListN.{length, drop}
 use borrow.Author.Rules.{rules}
-use Rattle.canonical.specs.Hash.{hash as hash_of}
 use Rattle.canonical.proofs.Hashing.{hash-end, hash-next}
 use Rattle.canonical.proofs.hash.Goals as goal
 
@@ -11,7 +9,7 @@ pub loop-i-init : goal.loop-i-init
 loop-i-init c = (search rules, search rules, sym (hash-end c.args.name.now))
 
 pub overflow_add-h : goal.overflow_add-h
-overflow_add-h c = omega (arith, c.shared_slice_known-in-loop-i-1.given (c.loop-i.i - 1))
+overflow_add-h c = omega (arith, c.type_inv.name (c.loop-i.i - 1))
 
 pub loop-i-preserved : goal.loop-i-preserved
 loop-i-preserved c =

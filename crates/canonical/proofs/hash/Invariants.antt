@@ -1,13 +1,10 @@
 -- `hash` meets its contract. The loop's invariant: `h` is the hash of the bytes from `i` on, and below 2 to the 32nd, so that no sum wraps.
 -- The measure is `i`.
 -- Assumes nothing.
-use mathlib.Core.Path.{◌≡◌, sym}
-use Prim.Native.Nat.{◌-◌, ◌<◌, ◌≤◌}
-use native.Mathlib.Omega.{arith}
+use mathlib.Core.Path.{◌≡◌}
+use Prim.Native.Nat.{◌<◌, ◌≤◌}
 use lib.ListN.{length, drop}
-use borrow.Author.Rules.{rules}
 use Rattle.canonical.specs.Hash.{hash as hash_of}
-use Rattle.canonical.proofs.Hashing.{hash-end, hash-next}
 use Rattle.canonical.proofs.hash.Given as goal
 
 abbrev pub invariant-loop-i : goal.invariant-loop-i

@@ -1,7 +1,6 @@
 -- `many_numbers` meets its contract: names that are not refused are 500 at most, and have room in tables of 501.
 -- Assumes nothing.
 use native.Mathlib.Omega.{arith}
-use borrow.Author.Rules.{rules}
 use Rattle.canonical.proofs.Numbering.{number_small}
 use Rattle.canonical.proofs.Zeros.{zeros}
 use Rattle.canonical.proofs.many_numbers.Goals as goal

@@ -1,8 +1,7 @@
-use Prim.Native.Nat.{suc, ◌-◌}
+use Prim.Native.Nat.{suc}
 use native.Mathlib.Omega.{arith}
-use borrow.Author.Rules.{rules}
 use Rattle.canonical.proofs.Firsts.{first-within}
-use Rattle.canonical.proofs.Numbering.{Numbering, numbering_start, numbering-next, numbering-end, number_small, key-hash, key-slot}
+use Rattle.canonical.proofs.Numbering.{numbering_start, numbering-next, numbering-end, number_small, key-hash, key-slot}
 use Rattle.canonical.proofs.number_names.Goals as goal
 
 pub loop-n-init : goal.loop-n-init

@@ -1,11 +1,8 @@
 -- `number_names` meets its contract. The loop's invariant is `Numbering`: the tables stand as they do once the first `n` names are numbered.
 -- The measure is what is left of the names.
 -- Assumes nothing.
-use Prim.Native.Nat.{suc, ◌-◌}
-use native.Mathlib.Omega.{arith}
-use borrow.Author.Rules.{rules}
-use Rattle.canonical.proofs.Firsts.{first-within}
-use Rattle.canonical.proofs.Numbering.{Numbering, numbering_start, numbering-next, numbering-end, number_small, key-hash, key-slot}
+use Prim.Native.Nat.{◌-◌}
+use Rattle.canonical.proofs.Numbering.{Numbering}
 use Rattle.canonical.proofs.number_names.Given as goal
 
 abbrev pub invariant-loop-n : goal.invariant-loop-n

@@ -24,4 +24,4 @@ returns-in-20 c =
 
 pub returns-in_default : goal.returns-in_default
 returns-in_default c =
-    code-plain _ _ c.own_class-own.ensures c.if-own-ne-BLOCK.false c.if-row-eq0.false c.own_class.ensures c.in_default.rest
+    code-plain _ _ c.own_class-own.ensures c.if-own-ne-BLOCK.false c.if-row-eq0.false c.own_class.ensures (search rules)

@@ -9,7 +9,7 @@ use Rattle.rules.specs.Class.{detail_allowed, class_of}
 use Rattle.rules.proofs.Every.{every}
 use Rattle.classes.proofs.Codes.{entry-small, entry-code}
 use Rattle.classes.proofs.own_class.Goals as goal
-use Rattle.classes.proofs.own_class.Tie as tie
+use Rattle.classes.proofs.own_class.Goals.{After-wide-detail}
 
 -- CLASSES
 abbrev entries : List (List ℕ)
@@ -37,16 +37,16 @@ entries =
     ∷ (22 ∷ 0 ∷ 0 ∷ 0 ∷ [])  -- Range
     ∷ []
 
-in_table : (c : tie.After-wide-detail) → (c.wide-kind.result < 21) × (c.wide-detail.result < 4)
+in_table : (c : After-wide-detail) → (c.wide-kind.result < 21) × (c.wide-detail.result < 4)
 in_table c =
     entry-small c.args.rows.now c.args.row.0 (c.requires.1 _ c.requires.0)
     (c.wide-kind.ensures ∙ c.kind.ensures) (c.wide-detail.ensures ∙ c.detail.ensures)
 
 pub bounds-kind : goal.bounds-kind
-bounds-kind c = (in_table c.before).0
+bounds-kind c = (in_table (goal.at.bounds-kind c).After-wide-detail).0
 
 pub bounds-detail : goal.bounds-detail
-bounds-detail c = (in_table c.before).1
+bounds-detail c = (in_table (goal.at.bounds-detail c).After-wide-detail).1
 
 pub returns : goal.returns
 unfolding every lowest detail_allowed class_of

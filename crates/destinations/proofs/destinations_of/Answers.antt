@@ -6,23 +6,25 @@ use Rattle.destinations.proofs.destinations_of.Goals as goal
 
 pub enclosing_of-requires : goal.enclosing_of-requires
 enclosing_of-requires c =
-    let p = (c.requires.faultless, (c.requires.parents, c.requires.rows_in_bounds)) in
-    let body = formed p.0.0 in
-    let few = body.most_rows in record { formed = (((_, _, body)), p.1.0.0, p.1.1.0); rows_in_bounds = (few, few, few) }
+    let body = formed c.requires.faultless.0 in
+    let few = body.most_rows in
+    record { formed = ((_, _, body), c.requires.parents.0, c.requires.rows_in_bounds.0); rows_in_bounds = (few, few, few) }
 
 pub write_destinations-requires : goal.write_destinations-requires
 write_destinations-requires c =
-    let p = (c.requires.faultless, (c.requires.parents, c.requires.rows_in_bounds)) in
-    let few = (formed p.0.0).most_rows in
-    let around = c.enclosing_of.ensures in record { tables = record {
-        faultless = p.0.0;
-        bound = p.0.1;
-        afters_room = p.1.1.1;
-        after_rows = p.1.0.1;
+    let few = (formed c.requires.faultless.0).most_rows in
+    let around = c.enclosing_of.ensures in record {
+      tables = record {
+        faultless = c.requires.faultless.0;
+        bound = c.requires.faultless.1;
+        afters_room = c.requires.rows_in_bounds.1;
+        after_rows = c.requires.parents.1;
         breakables_room = search rules;
-        breakable_rows = around.0;
+        breakable_rows = around.breakables;
         loops_room = search rules;
-        loop_rows = around.1.0;
+        loop_rows = around.loops;
         cases_room = search rules;
-        case_rows = around.1.1;
-      }; rows_in_bounds = (p.1.1.2, ) }
+        case_rows = around.cases;
+      };
+      rows_in_bounds = c.requires.rows_in_bounds.2;
+    }

@@ -11,7 +11,7 @@ use Rattle.destinations.specs.Destinations.{DestinationsBelow}
 use Rattle.destinations.proofs.Places.{formed}
 use Rattle.destinations.proofs.Written.{branch-more, other-more}
 use Rattle.destinations.proofs.write_destinations.Goals as goal
-use Rattle.destinations.proofs.write_destinations.Tie as tie
+use Rattle.destinations.proofs.write_destinations.Goals.{After-kind, then-kind-eq-BRANCH, else-kind-eq-BRANCH}
 
 pub loop-r-init : goal.loop-r-init
 loop-r-init c = (omega arith, refl, λ k h. absurd (omega arith))
@@ -38,7 +38,7 @@ pub loop-r-smaller : goal.loop-r-smaller
 loop-r-smaller c = omega arith
 
 -- a row of another kind is no Branch
-no-branch : (k : tie.After-kind goal.the-invariant-loop-r goal.the-decreases-loop-r) → (k.kind.result ≡ 11 → ⊥)
+no-branch : (k : After-kind) → (k.kind.result ≡ 11 → ⊥)
     → is_branch (class k.args.rows.now k.loop-r.r) ≡ false
 no-branch k n =
     let a = (formed k.requires.tables.faultless).details k.loop-r.r k.loop-r-test.true in
@@ -49,18 +49,19 @@ loop-r-preserved c =
     let row = c.loop-r-test.true in
     let same = c.loop-r.invariant.1 in
     let room : c.loop-r.r < length c.loop-r.destinations = omega (arith, c.requires.rows_in_bounds) in
-    ⊎_elim
-    (λ a. (
-      omega arith,
-      ap length a.2 ∙ simp length-set same,
-      branch-more _ _ _ c.loop-r.destinations _ _ c.loop-r.invariant.2 a.1.result room a.2 a.1.ensures.0,
-    ))
-    (λ a. (
-      omega arith,
-      ap length a.1 ∙ same,
-      other-more _ _ _ c.loop-r.destinations _ _ c.loop-r.invariant.2 a.1 (no-branch c.before.before a.0.left),
-    ))
-    c.if-kind-eq-BRANCH.branch
+    elim c.if-kind-eq-BRANCH.branch [
+      | then-kind-eq-BRANCH w ↦ (
+        omega arith,
+        ap length w.destinations-is ∙ simp length-set same,
+        branch-more _ _ _ c.loop-r.destinations _ _ c.loop-r.invariant.2 _ room w.destinations-is w.destination-place.ensures.0,
+      )
+      | else-kind-eq-BRANCH w ↦ (
+        omega arith,
+        ap length w.destinations-is ∙ same,
+        other-more _ _ _ c.loop-r.destinations _ _ c.loop-r.invariant.2 w.destinations-is
+            (no-branch (goal.at.loop-r-preserved c).After-kind w.if-kind-eq-BRANCH.false),
+      )
+    ]
 
 pub shape_of-destinations : goal.shape_of-destinations
 shape_of-destinations c = omega (arith, c.loop-r.invariant.1)

@@ -3,17 +3,17 @@ use mathlib.Core.Bool.{Bool, true}
 use Prim.Native.Nat.{ℕ, ◌-◌, ◌≤◌, ◌<◌}
 use native.Mathlib.Omega.{arith}
 use lib.ListN.{length, get_or, length-set}
-use Rattle.rules.specs.Rows.{row_count}
+use Rattle.rules.specs.Rows.{row_count, kind}
 use Rattle.rules.specs.Class.{Class, is_breakable, is_loop, is_case, detail_allowed, class_of, base, class}
 use Rattle.rules.proofs.ByKind.{kind-case}
 use Rattle.rules.proofs.Lists.{by-words, own-breakable, own-loop, own-case}
 use Rattle.parents.proofs.Reading.{parent-word}
 use Rattle.enclosing.proofs.Filled.{Filled, ParentOf, filled-start, filled_more}
 use Rattle.enclosing.proofs.enclosing_of.Goals as goal
-use Rattle.enclosing.proofs.enclosing_of.Tie as tie
+use Rattle.enclosing.proofs.enclosing_of.Goals.{In-loop-r}
 
 -- in a turn: the parent of row r, the room in the three tables, and how many rows there are
-parent : (c : tie.After-shared_slice_known-in-loop-r-1 goal.the-invariant-loop-r goal.the-decreases-loop-r) →
+parent : (c : In-loop-r) →
     let a = c.args in
     let v = get_or a.parents.now c.loop-r.r 0 in (0 < v) × ParentOf a.rows.now c.loop-r.r (v - 1)
 parent c =
@@ -21,7 +21,7 @@ parent c =
     let (some, before, child) = parent-word c.requires.formed.0.2 c.args.parents.now c.loop-r.r _ c.requires.formed.1 c.loop-r.invariant.0 row refl in
     (some, record { before = before; child = child })
 
-room : (c : tie.After-shared_slice_known-in-loop-r-1 goal.the-invariant-loop-r goal.the-decreases-loop-r) →
+room : (c : In-loop-r) →
     let n = row_count c.args.rows.now in (n ≤ length c.loop-r.breakables) × (n ≤ length c.loop-r.loops) × (n ≤ length c.loop-r.cases)
 room c =
     let p = c.requires.rows_in_bounds in (
@@ -30,7 +30,7 @@ room c =
       omega (arith, p.2, simp length-set at c.loop-r.invariant.4.same_length),
     )
 
-small : (c : tie.After-shared_slice_known-in-loop-r-1 goal.the-invariant-loop-r goal.the-decreases-loop-r) → c.loop-r.r < 2000
+small : (c : In-loop-r) → c.loop-r.r < 2000
 small c = omega (arith, c.loop-r-test.true, c.requires.formed.0.2.most_rows)
 
 pub bounds-breakables-0 : goal.bounds-breakables-0
@@ -60,13 +60,13 @@ pub bounds-parents-r : goal.bounds-parents-r
 bounds-parents-r c = omega (arith, c.requires.formed.2)
 
 pub overflow_cast-p : goal.overflow_cast-p
-overflow_cast-p c = omega (arith, (parent c.before).1.before, c.requires.formed.0.2.most_rows)
+overflow_cast-p c = omega (arith, (parent (goal.at.overflow_cast-p c).In-loop-r).1.before, c.requires.formed.0.2.most_rows)
 
 pub overflow_sub-p : goal.overflow_sub-p
-overflow_sub-p c = omega (arith, (parent c.before).0)
+overflow_sub-p c = omega (arith, (parent (goal.at.overflow_sub-p c).In-loop-r).0)
 
 pub kind-kind-requires : goal.kind-kind-requires
-kind-kind-requires c = omega (arith, (parent c.before).1.before)
+kind-kind-requires c = omega (arith, (parent (goal.at.kind-kind-requires c).In-loop-r).1.before)
 
 pub is_breakable-is_breakable-requires : goal.is_breakable-is_breakable-requires
 is_breakable-is_breakable-requires c = tt
@@ -75,49 +75,58 @@ pub is_loop-is_loop-requires : goal.is_loop-is_loop-requires
 is_loop-is_loop-requires c = tt
 
 pub offset_bounds-breakables-p : goal.offset_bounds-breakables-p
-offset_bounds-breakables-p c = omega (arith, small c.before.before.before.before, (parent c.before.before.before.before).1.before)
+offset_bounds-breakables-p c =
+    let t = (goal.at.offset_bounds-breakables-p c).In-loop-r in omega (arith, small t, (parent t).1.before)
 
 pub bounds-breakables-p : goal.bounds-breakables-p
-bounds-breakables-p c = omega (arith, (room c.before.before.before.before.before).0, (parent c.before.before.before.before.before).1.before)
+bounds-breakables-p c =
+    let t = (goal.at.bounds-breakables-p c).In-loop-r in omega (arith, (room t).0, (parent t).1.before)
 
 pub from_parent-requires : goal.from_parent-requires
-from_parent-requires c = omega (arith, small c.before.before.before.before.before, (parent c.before.before.before.before.before).1.before)
+from_parent-requires c =
+    let t = (goal.at.from_parent-requires c).In-loop-r in omega (arith, small t, (parent t).1.before)
 
 pub offset_bounds-breakables-r : goal.offset_bounds-breakables-r
 offset_bounds-breakables-r c = omega arith
 
 pub bounds-breakables-r : goal.bounds-breakables-r
-bounds-breakables-r c = omega (arith, (room c.before.before.before.before.before.before).0)
+bounds-breakables-r c = omega (arith, (room (goal.at.bounds-breakables-r c).In-loop-r).0)
 
 pub offset_bounds-loops-p : goal.offset_bounds-loops-p
-offset_bounds-loops-p c = omega (arith, small c.before.before.before.before.before.before, (parent c.before.before.before.before.before.before).1.before)
+offset_bounds-loops-p c =
+    let t = (goal.at.offset_bounds-loops-p c).In-loop-r in omega (arith, small t, (parent t).1.before)
 
 pub bounds-loops-p : goal.bounds-loops-p
-bounds-loops-p c = omega (arith, (room c.before.before.before.before.before.before.before).1, (parent c.before.before.before.before.before.before.before).1.before)
+bounds-loops-p c =
+    let t = (goal.at.bounds-loops-p c).In-loop-r in omega (arith, (room t).1, (parent t).1.before)
 
 pub from_parent-requires-in-loop-r : goal.from_parent-requires-in-loop-r
-from_parent-requires-in-loop-r c = omega (arith, small c.before.before.before.before.before.before.before, (parent c.before.before.before.before.before.before.before).1.before)
+from_parent-requires-in-loop-r c =
+    let t = (goal.at.from_parent-requires-in-loop-r c).In-loop-r in omega (arith, small t, (parent t).1.before)
 
 pub offset_bounds-loops-r : goal.offset_bounds-loops-r
 offset_bounds-loops-r c = omega arith
 
 pub bounds-loops-r : goal.bounds-loops-r
-bounds-loops-r c = omega (arith, (room c.before.before.before.before.before.before.before.before).1)
+bounds-loops-r c = omega (arith, (room (goal.at.bounds-loops-r c).In-loop-r).1)
 
 pub offset_bounds-cases-p : goal.offset_bounds-cases-p
-offset_bounds-cases-p c = omega (arith, small c.before.before.before.before.before.before.before.before, (parent c.before.before.before.before.before.before.before.before).1.before)
+offset_bounds-cases-p c =
+    let t = (goal.at.offset_bounds-cases-p c).In-loop-r in omega (arith, small t, (parent t).1.before)
 
 pub bounds-cases-p : goal.bounds-cases-p
-bounds-cases-p c = omega (arith, (room c.before.before.before.before.before.before.before.before.before).2, (parent c.before.before.before.before.before.before.before.before.before).1.before)
+bounds-cases-p c =
+    let t = (goal.at.bounds-cases-p c).In-loop-r in omega (arith, (room t).2, (parent t).1.before)
 
 pub from_parent-requires-in-loop-r-2 : goal.from_parent-requires-in-loop-r-2
-from_parent-requires-in-loop-r-2 c = omega (arith, small c.before.before.before.before.before.before.before.before.before, (parent c.before.before.before.before.before.before.before.before.before).1.before)
+from_parent-requires-in-loop-r-2 c =
+    let t = (goal.at.from_parent-requires-in-loop-r-2 c).In-loop-r in omega (arith, small t, (parent t).1.before)
 
 pub offset_bounds-cases-r : goal.offset_bounds-cases-r
 offset_bounds-cases-r c = omega arith
 
 pub bounds-cases-r : goal.bounds-cases-r
-bounds-cases-r c = omega (arith, (room c.before.before.before.before.before.before.before.before.before.before).2)
+bounds-cases-r c = omega (arith, (room (goal.at.bounds-cases-r c).In-loop-r).2)
 
 pub overflow_add-r : goal.overflow_add-r
 overflow_add-r c = omega arith
@@ -125,33 +134,31 @@ overflow_add-r c = omega arith
 pub loop-r-smaller : goal.loop-r-smaller
 loop-r-smaller c = omega arith
 
--- the kind of the parent says which of the classes it has
-by_kind : (c : tie.After-kind-kind goal.the-invariant-loop-r goal.the-decreases-loop-r) (P : Class → Bool) →
-    let a = c.args in
-    let w = a.rows.now in
-    let q = get_or a.parents.now c.loop-r.r 0 - 1 in
-    P (class w q) ≡ P (base w q) → (x : Bool) → ((d : ℕ) → detail_allowed c.kind-kind.result d ≡ true → x ≡ P (class_of c.kind-kind.result d))
-    → x ≡ P (class w q)
-by_kind c P own x h =
-    let body = c.requires.formed.0.2 in
-    by-words P _ _ c.kind-kind.result x own c.kind-kind.ensures (body.details _ (omega (arith, (parent c.before).1.before, c.loop-r-test.true))) h
+-- the kind k of the parent says which of the classes it has
+by_kind : (c : In-loop-r) (P : Class → Bool) (k : ℕ) →
+    let w = c.args.rows.now in
+    let q = get_or c.args.parents.now c.loop-r.r 0 - 1 in
+    k ≡ kind w q → P (class w q) ≡ P (base w q) → (x : Bool) → ((d : ℕ) → detail_allowed k d ≡ true → x ≡ P (class_of k d)) → x ≡ P (class w q)
+by_kind c P k e own x h =
+    by-words P _ _ k x own e (c.requires.formed.0.2.details _ (omega (arith, (parent c).1.before, c.loop-r-test.true))) h
 
 pub loop-r-preserved : goal.loop-r-preserved
 loop-r-preserved c =
     let body = c.requires.formed.0.2 in
     let row = c.loop-r-test.true in
-    let q = (parent c.before.before.before.before.before.before.before.before.before.before).1 in
-    let h = room c.before.before.before.before.before.before.before.before.before.before in
+    let here = (goal.at.loop-r-preserved c).In-loop-r in
+    let q = (parent here).1 in
+    let h = room here in
     let (n, m, breakables, loops, cases) = c.loop-r.invariant in (
       omega arith,
       omega arith,
       filled_more body is_breakable _ _ _ _ _ _ row h.0 q
-          (by_kind c.before.before.before.before.before.before.before.before.before is_breakable (own-breakable _ _) _ c.is_breakable-is_breakable.ensures)
+          (by_kind here is_breakable _ c.kind-kind.ensures (own-breakable _ _) _ c.is_breakable-is_breakable.ensures)
           c.from_parent.ensures breakables,
       filled_more body is_loop _ _ _ _ _ _ row h.1 q
-          (by_kind c.before.before.before.before.before.before.before.before.before is_loop (own-loop _ _) _ c.is_loop-is_loop.ensures) c.from_parent-in-loop-r.ensures loops,
+          (by_kind here is_loop _ c.kind-kind.ensures (own-loop _ _) _ c.is_loop-is_loop.ensures) c.from_parent-in-loop-r.ensures loops,
       filled_more body is_case _ _ _ _ _ _ row h.2 q
-          (by_kind c.before.before.before.before.before.before.before.before.before is_case (own-case _ _) _ (λ d a. kind-case _ d a)) c.from_parent-in-loop-r-2.ensures cases,
+          (by_kind here is_case _ c.kind-kind.ensures (own-case _ _) _ (λ d a. kind-case _ d a)) c.from_parent-in-loop-r-2.ensures cases,
     )
 
 pub shape_of-breakables : goal.shape_of-breakables

@@ -13,11 +13,10 @@ pub loop-input-init : goal.loop-input-init
 loop-input-init c = (c.large_buffer-piece.ensures, c.requires)
 
 pub read_on-input-requires : goal.read_on-input-requires
-read_on-input-requires c =
-    (
-      c.loop-input.invariant.1 (not-true _ c.loop-input-test.true),
-      omega (arith, c.loop-input.invariant.0, c.read_full-got.ensures.0, c.read_full-got.auto.1.0),
-    )
+read_on-input-requires c = (
+  c.loop-input.invariant.1 (not-true _ c.loop-input-test.true),
+  omega (arith, c.loop-input.invariant.0, c.read_full-got.ensures.0, c.read_full-got.auto.1.0),
+)
 
 pub loop-input-smaller : goal.loop-input-smaller
 loop-input-smaller c =
@@ -25,8 +24,7 @@ loop-input-smaller c =
     less-left _ _ _ 65536 _ _ going (c.loop-input.invariant.1 going) (omega arith) c.read_on-input.ensures.length c.read_on-input.ensures.ended
 
 pub loop-input-preserved : goal.loop-input-preserved
-loop-input-preserved c =
-    (
-      omega (arith, c.loop-input.invariant.0, c.read_full-got.auto.1.0),
-      λ e. rw c.read_on-input.ensures.length (not_last _ _ (sym c.read_on-input.ensures.ended ∙ e)),
-    )
+loop-input-preserved c = (
+  omega (arith, c.loop-input.invariant.0, c.read_full-got.auto.1.0),
+  λ e. rw c.read_on-input.ensures.length (not_last _ _ (sym c.read_on-input.ensures.ended ∙ e)),
+)

@@ -3,7 +3,6 @@
 use mathlib.Core.Path.{refl, sym, ◌∙◌, ap}
 use Prim.Native.Nat.{ℕ, ◌+◌}
 use native.Mathlib.Omega.{arith}
-use borrow.Author.Rules.{rules}
 use Rattle.walk_state.proofs.TableRows.{canon-place, declared-place}
 use Rattle.jumps.proofs.BranchRows.{break-detail}
 use Rattle.jumps.proofs.BranchSteps.{faults-small, break-bound, break-fits, break-walked}
@@ -25,7 +24,7 @@ bounds-label_rows-c c =
     declared-place c.requires.tables _ _ c.requires.row_bound.0 c.canon_of-c.ensures
 
 pub overflow_cast-bindings : goal.overflow_cast-bindings
-overflow_cast-bindings c = omega (arith, c.shared_slice_known-then-valid_target-1.given c.canon_of-c.result)
+overflow_cast-bindings c = omega (arith, c.type_inv.label_rows c.canon_of-c.result)
 
 pub returns-then-valid_target : goal.returns-then-valid_target
 returns-then-valid_target c =

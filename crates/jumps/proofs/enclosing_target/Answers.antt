@@ -1,10 +1,9 @@
-use mathlib.Core.Logic.{inl, inr}
 use native.Mathlib.Omega.{arith}
-use borrow.Author.Rules.{rules}
 use Rattle.walk_state.proofs.TableRows.{canon-place}
-use Rattle.jumps.proofs.ListClimb.{Climbing, climb-start, no_name, climb-none, climb-in, climb-less, climb-plain, climb-unlabelled, label-in}
+use Rattle.jumps.proofs.ListClimb.{climb-start, no_name, climb-none, climb-in, climb-less, climb-plain, climb-unlabelled, label-in}
 use Rattle.jumps.proofs.ListClimb.{climb-other, climb-found}
 use Rattle.jumps.proofs.enclosing_target.Goals as goal
+use Rattle.jumps.proofs.enclosing_target.Goals.{then-kind-eq-BLOCK+then-label-ne0+else-canon_of-c, then-kind-eq-BLOCK+else-label-ne0, else-kind-eq-BLOCK}
 
 pub canon_of-c-requires : goal.canon_of-c-requires
 canon_of-c-requires c =
@@ -39,14 +38,14 @@ bounds-goto_or_label-l c =
 pub canon_of-requires : goal.canon_of-requires
 canon_of-requires c =
     let h = label-in c.requires.tables _ c.requires.row_bound.0 c.canon_of-c.ensures _ c.loop-list.invariant c.loop-list-test.true _ c.kind.ensures c.if-kind-eq-BLOCK.true
-    c.args.goto-or-label.now c.requires.block_labels
+    c.args.goto_or_label.now c.requires.block_labels
     _ c.wide-label.ensures c.if-label-ne0.true in
     (h, canon-place c.requires.tables _ h)
 
 pub returns-then-canon_of-c : goal.returns-then-canon_of-c
 returns-then-canon_of-c c =
     climb-found c.requires.tables _ c.requires.row_bound.0 c.canon_of-c.ensures _ c.loop-list.invariant c.loop-list-test.true _ c.kind.ensures c.if-kind-eq-BLOCK.true
-    c.args.goto-or-label.now c.requires.block_labels _ c.wide-label.ensures c.if-label-ne0.true
+    c.args.goto_or_label.now c.requires.block_labels _ c.wide-label.ensures c.if-label-ne0.true
     _ c.canon_of.ensures c.if-c-eq0.false c.if-canon_of-c.true
 
 pub offset_bounds-lists-l : goal.offset_bounds-lists-l
@@ -64,18 +63,17 @@ loop-list-smaller c =
 pub loop-list-preserved : goal.loop-list-preserved
 loop-list-preserved c =
     elim c.if-kind-eq-BLOCK.branch [
-      | inl x ↦
-          climb-other c.requires.tables _ c.requires.row_bound.0 c.canon_of-c.ensures _ c.loop-list.invariant c.loop-list-test.true _ c.kind.ensures x.0.taken
-          c.args.goto-or-label.now c.requires.block_labels _ x.2.ensures
-          x.3.taken _ x.4.ensures _ c.wide-list-in-loop-list.ensures x.5.left
-      | inr y ↦ elim y [
-        | inl x ↦
-            climb-unlabelled c.requires.tables _ c.requires.row_bound.0 c.canon_of-c.ensures _ c.loop-list.invariant c.loop-list-test.true _ c.kind.ensures x.0.taken
-            c.args.goto-or-label.now c.requires.block_labels _ x.2.ensures
-            _ c.wide-list-in-loop-list.ensures x.3.left
-        | inr x ↦ climb-plain c.requires.tables _ c.requires.row_bound.0 c.canon_of-c.ensures _ c.loop-list.invariant c.loop-list-test.true _ _ c.wide-list-in-loop-list.ensures c.kind.ensures
-            x.left
-      ]
+      | then-kind-eq-BLOCK+then-label-ne0+else-canon_of-c w ↦
+          climb-other c.requires.tables _ c.requires.row_bound.0 c.canon_of-c.ensures _ c.loop-list.invariant c.loop-list-test.true _ c.kind.ensures w.if-kind-eq-BLOCK.true
+          c.args.goto_or_label.now c.requires.block_labels _ w.wide-label.ensures
+          w.if-label-ne0.true _ w.canon_of.ensures _ c.wide-list-in-loop-list.ensures w.if-canon_of-c.false
+      | then-kind-eq-BLOCK+else-label-ne0 w ↦
+          climb-unlabelled c.requires.tables _ c.requires.row_bound.0 c.canon_of-c.ensures _ c.loop-list.invariant c.loop-list-test.true _ c.kind.ensures w.if-kind-eq-BLOCK.true
+          c.args.goto_or_label.now c.requires.block_labels _ w.wide-label.ensures
+          _ c.wide-list-in-loop-list.ensures w.if-label-ne0.false
+      | else-kind-eq-BLOCK w ↦
+          climb-plain c.requires.tables _ c.requires.row_bound.0 c.canon_of-c.ensures _ c.loop-list.invariant c.loop-list-test.true _ _ c.wide-list-in-loop-list.ensures c.kind.ensures
+          w.if-kind-eq-BLOCK.false
     ]
 
 pub returns : goal.returns

@@ -1,7 +1,6 @@
 -- A goto with an earlier label is bound to it; else it is pending, on top of those of its name, or, named `_`, of none.
 -- Assumes nothing.
 use native.Mathlib.Omega.{arith}
-use borrow.Author.Rules.{rules}
 use Rattle.walk_state.proofs.TableRows.{canon-place}
 use Rattle.jumps.proofs.BranchSteps.{label_small, goto-bound, goto-blank, goto-place, goto-pending}
 use Rattle.jumps.proofs.goto_branches.Goals as goal

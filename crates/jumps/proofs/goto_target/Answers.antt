@@ -1,7 +1,6 @@
 -- The declared label of the goto's name, step by step: each way out is one law of the tables.
 -- Assumes nothing.
 use native.Mathlib.Omega.{arith}
-use borrow.Author.Rules.{rules}
 use Rattle.walk_state.proofs.TableRows.{canon-place, declared-place, no-canon, no-declared, label_after, no-list, list-in, list-small, list-ended}
 use Rattle.walk_state.proofs.TableRows.{list-around}
 use Rattle.jumps.proofs.goto_target.Goals as goal

@@ -3,7 +3,6 @@
 use mathlib.Core.Path.{◌≡◌, sym, ◌∙◌}
 use Prim.Native.Nat.{ℕ, ◌<◌}
 use native.Mathlib.Omega.{arith}
-use borrow.Author.Rules.{rules}
 use Rattle.jumps.proofs.BranchRows.{detail-fallthrough, detail-goto, other-break}
 use Rattle.jumps.proofs.BranchSteps.{faults-small, unlabelled, fallthrough-fits, fallthrough-walked}
 use Rattle.jumps.proofs.jump_branches.Goals as goal
@@ -36,21 +35,23 @@ returns-then-detail-eq-FALLTHROUGH c =
     _ c.put.ensures
 
 pub goto_branches-requires : goal.goto_branches-requires
-goto_branches-requires c = record { tables = c.requires.tables; walking = (
-        c.requires.walking,
-        (
-          c.requires.row_bound.0,
-          detail-goto c.args.rows.now _ (c.requires.tables.body.details _ c.requires.row_bound.0) c.requires.row_bound.1 (sym c.detail-detail.ensures ∙ c.if-detail-eq-GOTO.true),
-        ),
-      ); row_bound =  }
+goto_branches-requires c = record {
+  tables = c.requires.tables;
+  walking = c.requires.walking;
+  row_bound = (
+    c.requires.row_bound.0,
+    detail-goto c.args.rows.now _ (c.requires.tables.body.details _ c.requires.row_bound.0) c.requires.row_bound.1 (sym c.detail-detail.ensures ∙ c.if-detail-eq-GOTO.true),
+  );
+}
 
 pub break_branches-requires : goal.break_branches-requires
-break_branches-requires c = record { tables = c.requires.tables; walking = (
-        c.requires.walking,
-        (
-          c.requires.row_bound.0,
-          other-break c.args.rows.now _ (c.requires.tables.body.details _ c.requires.row_bound.0) c.requires.row_bound.1 (λ e. c.if-detail-eq-FALLTHROUGH.false (c.detail-detail.ensures ∙ e))
-              (λ e. c.if-detail-eq-GOTO.false (c.detail-detail.ensures ∙ e)),
-          some-name _ _ c.name-name.ensures c.if-name-eq0.false,
-        ),
-      ); row_bound =  }
+break_branches-requires c = record {
+  tables = c.requires.tables;
+  walking = c.requires.walking;
+  row_bound = (
+    c.requires.row_bound.0,
+    other-break c.args.rows.now _ (c.requires.tables.body.details _ c.requires.row_bound.0) c.requires.row_bound.1 (λ e. c.if-detail-eq-FALLTHROUGH.false (c.detail-detail.ensures ∙ e))
+        (λ e. c.if-detail-eq-GOTO.false (c.detail-detail.ensures ∙ e)),
+    some-name _ _ c.name-name.ensures c.if-name-eq0.false,
+  );
+}

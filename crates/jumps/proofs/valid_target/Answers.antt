@@ -1,7 +1,6 @@
 -- A break needs the row below its target's label to be breakable, a continue a loop; the detail says which of the two the row is.
 -- Assumes nothing.
 use mathlib.Core.Path.{sym, ◌∙◌}
-use borrow.Author.Rules.{rules}
 use Rattle.rules.specs.Class.{class}
 use Rattle.rules.proofs.ClassTests.{break-branch}
 use Rattle.jumps.proofs.BranchRows.{zero-break, not-zero-continue, no_target, target_row, valid-break, valid-continue}

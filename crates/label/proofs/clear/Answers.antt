@@ -5,7 +5,6 @@ use lib.ListN.{length, get_or, drop}
 use borrow.Author.Rules.{rules}
 use Rattle.label.proofs.CallRows.{cleared_more}
 use Rattle.label.proofs.clear.Goals as goal
-use Rattle.label.proofs.clear.Tie as tie
 
 pub loop-k-init : goal.loop-k-init
 loop-k-init c = (omega arith, refl, λ g h. absurd (omega arith), refl)
@@ -21,18 +20,3 @@ pub returns : goal.returns
 returns c =
     let i = c.loop-k.invariant in
     record { cleared_length = i.1; zeros = λ g h. i.2 g (omega (arith, c.loop-k-test.false)); kept = i.3 }
-
-pub clear_spec : {M : Type 1} → statement M
-clear_spec =
-    tie.close
-    (tie.spec
-    goal.the-invariant-loop-k
-    goal.the-decreases-loop-k
-    loop-holds
-    mul-bindings
-    slice-write-bindings
-    add-k
-    loop-less
-    loop-again
-    same_length
-    returns)

@@ -15,12 +15,6 @@ returns-then-bindings-count c = let q = call-short-bindings _ _ _ _ _ (sym c.req
 pub faults-requires : goal.faults-requires
 faults-requires c = record { body = body _ _ _ c.requires; rows_in_bounds = (c.if-sheet-count.false, c.if-bindings-count.false) }
 
-pub shape_of-sheet : goal.shape_of-sheet
-shape_of-sheet c = c.sheet-1.given
-
-pub shape_of-bindings : goal.shape_of-bindings
-shape_of-bindings c = c.bindings-1.given
-
 pub returns : goal.returns
 returns c = let q = call-answered _ _ _ _ _ (sym c.requires) _ _ _ c.if-sheet-count.false c.if-bindings-count.false
     c.faults.ensures in record { answer = q.0; sheet = q.1.0; bindings = q.1.1 }

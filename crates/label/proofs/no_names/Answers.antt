@@ -25,4 +25,4 @@ loop-r-preserved c =
     )
 
 pub returns : goal.returns
-returns-then-name_word-ne0 c _ k h = c.loop-r.invariant.1 k (omega (arith, c.loop-r-test.false))
+returns c _ k h = c.loop-r.invariant.1 k (omega (arith, c.loop-r-test.false))

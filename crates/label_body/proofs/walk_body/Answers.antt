@@ -22,40 +22,12 @@ unresolved-more-requires c =
 pub unused-requires : goal.unused-requires
 unused-requires c =
     let a = walked_end c.requires.body _ _ _ _ _ _ _ c.rows_branches-walked.ensures in
-    let e = c.unresolved-more.ensures in record { body = (c.requires.body, c.declared_table.ensures, e.1); pairs_in_bounds = (
-        tables-room c.requires.lent _ _ c.heads-1.given c.goto_or_label-1.given,
-        unused-start _ _ _ _ _ a e.0,
-      ); reported =  }
-
-pub shape_of-canonical : goal.shape_of-canonical
-shape_of-canonical c = c.canonical-1.given
-
-pub shape_of-label_rows : goal.shape_of-label_rows
-shape_of-label_rows c = c.label_rows-1.given
-
-pub shape_of-lists : goal.shape_of-lists
-shape_of-lists c = c.lists-1.given
-
-pub shape_of-sheet : goal.shape_of-sheet
-shape_of-sheet c = c.sheet-3-1.given ∙ c.sheet-2-1.given ∙ c.sheet-1.given
-
-pub shape_of-bindings : goal.shape_of-bindings
-shape_of-bindings c = c.bindings-1.given
-
-pub shape_of-heads : goal.shape_of-heads
-shape_of-heads c = c.heads-2-1.given ∙ c.heads-1.given
-
-pub shape_of-goto_or_label : goal.shape_of-goto_or_label
-shape_of-goto_or_label c = c.goto_or_label-2-1.given ∙ c.goto_or_label-1.given
-
-pub shape_of-latest_decls : goal.shape_of-latest_decls
-shape_of-latest_decls c = c.latest_decls-1.given
-
-pub shape_of-latest_labels : goal.shape_of-latest_labels
-shape_of-latest_labels c = c.latest_labels-1.given
-
-pub shape_of-used : goal.shape_of-used
-shape_of-used c = c.used-1.given
+    let e = c.unresolved-more.ensures in
+    record {
+      body = (c.requires.body, c.declared_table.ensures, e.used);
+      pairs_in_bounds = tables-room c.requires.lent _ _ c.rows_branches-walked.auto.heads c.rows_branches-walked.auto.goto_or_label;
+      reported = unused-start _ _ _ _ _ a e.sheet;
+    }
 
 pub returns : goal.returns
 returns c =

@@ -5,6 +5,7 @@ use Rattle.rules.specs.Names.{count_of_pairs}
 use Rattle.label_rest.proofs.LeftRows.{pair-most}
 use Rattle.label_rest.proofs.UnusedNames.{Collected, collected-start, collected-end, turn-none, turn-used, turn-unused}
 use Rattle.label_rest.proofs.unused_names.Goals as goal
+use Rattle.label_rest.proofs.unused_names.Goals.{then-label_rows-c-ne0+then-used-c-eq0, then-label_rows-c-ne0+else-used-c-eq0, else-label_rows-c-ne0}
 
 pub loop-c-init : goal.loop-c-init
 loop-c-init c = collected-start _ _ _ _
@@ -38,18 +39,18 @@ loop-c-smaller c = omega arith
 
 pub loop-c-preserved : goal.loop-c-preserved
 loop-c-preserved c =
-    let p = (c.requires.body, c.requires.pairs_in_bounds) in
+    let by_canon = c.requires.body.1 in
+    let uses = c.requires.body.2 in
     let h = c.loop-c-test.true in
     let x = c.loop-c.invariant in
-    ⊎_elim
-    (λ y. turn-unused h x p.0.1 p.0.2 y.0.taken y.2.taken p.1 _ _ y.4 y.3)
-    (⊎_elim
-    (λ y. turn-used h x p.0.1 p.0.2 y.0.taken y.2.left _ _ y.4 y.3)
-    (λ y. turn-none h x p.0.1 p.0.2 y.0.left _ _ y.2 y.1))
-    c.if-label_rows-c-ne0.branch
-
-pub shape_of-names : goal.shape_of-names
-shape_of-names c = c.loop-c.invariant.same_length
+    elim c.if-label_rows-c-ne0.branch [
+      | then-label_rows-c-ne0+then-used-c-eq0 y ↦
+          turn-unused h x by_canon uses y.if-label_rows-c-ne0.true y.if-used-c-eq0.true c.requires.pairs_in_bounds _ _ y.n-is y.names-is
+      | then-label_rows-c-ne0+else-used-c-eq0 y ↦
+          turn-used h x by_canon uses y.if-label_rows-c-ne0.true y.if-used-c-eq0.false _ _ y.n-is y.names-is
+      | else-label_rows-c-ne0 y ↦ turn-none h x by_canon uses y.if-label_rows-c-ne0.false _ _ y.n-is y.names-is
+    ]
 
 pub returns : goal.returns
-returns c = let p = (c.requires.body, c.requires.pairs_in_bounds) in collected-end p.0.0 p.1 c.loop-c-test.false c.loop-c.invariant
+returns c =
+    collected-end c.requires.body.0 c.requires.pairs_in_bounds c.loop-c-test.false c.loop-c.invariant

@@ -14,7 +14,14 @@ canon_of-requires c =
 
 pub returns-then-canon_of-eq0 : goal.returns-then-canon_of-eq0
 returns-then-canon_of-eq0 c =
-    let i = (c.requires.contexts, c.requires.row_bound) in record { walked = labeled-passed i.1.0 c.requires.walking i.1.1 (blank c.requires.tables i.1.0 i.1.1 i.0 _ c.canon_of.ensures c.if-canon_of-eq0.true); labels = (unlabelled c.requires.tables i.1.0 i.1.1 i.0 _ c.canon_of.ensures c.if-canon_of-eq0.true, ) }
+    let i = c.requires.row_bound in
+    let t = c.requires.tables in
+    let no = c.if-canon_of-eq0.true in
+    let n = c.canon_of.ensures in
+    record {
+      walked = labeled-passed i.0 c.requires.walking i.1 (blank t i.0 i.1 c.requires.contexts _ n no);
+      labels = unlabelled t i.0 i.1 c.requires.contexts _ n no;
+    }
 
 pub offset_bounds-lists-r : goal.offset_bounds-lists-r
 offset_bounds-lists-r c =
@@ -26,8 +33,8 @@ bounds-lists-r c =
 
 pub context_of-requires : goal.context_of-requires
 context_of-requires c =
-    let i = (c.requires.contexts, c.requires.row_bound) in
-    label-list c.requires.tables i.1.0 i.1.1 i.0 _ c.canon_of.ensures c.if-canon_of-eq0.false _ c.wide-list.ensures
+    let i = c.requires.row_bound in
+    label-list c.requires.tables i.0 i.1 c.requires.contexts _ c.canon_of.ensures c.if-canon_of-eq0.false _ c.wide-list.ensures
 
 pub overflow_add-r : goal.overflow_add-r
 overflow_add-r c =
@@ -35,64 +42,56 @@ overflow_add-r c =
 
 pub overflow_cast-latest_labels : goal.overflow_cast-latest_labels
 overflow_cast-latest_labels c =
-    let i = (c.requires.contexts, c.requires.row_bound) in
+    let i = c.requires.row_bound in
     omega (
       arith,
-      labelled-fits c.requires.tables i.1.0 i.1.1 i.0 _ c.canon_of.ensures
+      labelled-fits c.requires.tables i.0 i.1 c.requires.contexts _ c.canon_of.ensures
           c.if-canon_of-eq0.false _ c.wide-list.ensures c.context_of.result _ c.labelled-ctx.ensures,
     )
 
 pub overflow_sub-latest_labels : goal.overflow_sub-latest_labels
 overflow_sub-latest_labels c =
-    let i = (c.requires.contexts, c.requires.row_bound) in
+    let i = c.requires.row_bound in
     omega (
       arith,
-      (label-list c.requires.tables i.1.0 i.1.1 i.0 _ c.canon_of.ensures
+      (label-list c.requires.tables i.0 i.1 c.requires.contexts _ c.canon_of.ensures
           c.if-canon_of-eq0.false _ c.wide-list.ensures).0,
     )
 
 pub offset_bounds-latest_labels-list : goal.offset_bounds-latest_labels-list
 offset_bounds-latest_labels-list c =
-    let i = (c.requires.contexts, c.requires.row_bound) in
+    let i = c.requires.row_bound in
     omega (
       arith,
-      (label-list c.requires.tables i.1.0 i.1.1 i.0 _ c.canon_of.ensures
+      (label-list c.requires.tables i.0 i.1 c.requires.contexts _ c.canon_of.ensures
           c.if-canon_of-eq0.false _ c.wide-list.ensures).1,
     )
 
 pub bounds-latest_labels-list : goal.bounds-latest_labels-list
 bounds-latest_labels-list c =
-    let i = (c.requires.contexts, c.requires.row_bound) in
-    let l = label-list c.requires.tables i.1.0 i.1.1 i.0 _ c.canon_of.ensures
+    let i = c.requires.row_bound in
+    let l = label-list c.requires.tables i.0 i.1 c.requires.contexts _ c.canon_of.ensures
     c.if-canon_of-eq0.false _ c.wide-list.ensures in
     omega (arith, l.0, l.3)
 
 pub label_branches-requires : goal.label_branches-requires
 label_branches-requires c =
-    let i = (c.requires.contexts, c.requires.row_bound) in let q =  in record { tables = c.requires.tables; walking = (
-        c.requires.walking,
-        (
-          (
-            i.1.0,
-            labels c.requires.tables i.1.0 i.1.1 i.0 _ c.canon_of.ensures c.if-canon_of-eq0.false _
-                c.wide-list.ensures,
-          ),
-          label-latest c.requires.tables i.1.0 i.1.1 i.0 _ c.canon_of.ensures c.if-canon_of-eq0.false _
-              c.wide-list.ensures c.context_of.result _ c.labelled-ctx.ensures
-              c.context_of.ensures.0,
-        ),
-      ); row_bound = q.0; latest_value = q.1 }
-
-pub shape_of-sheet : goal.shape_of-sheet
-shape_of-sheet c = c.sheet-1.given
-
-pub shape_of-bindings : goal.shape_of-bindings
-shape_of-bindings c = c.bindings-1.given
-
-pub shape_of-heads : goal.shape_of-heads
-shape_of-heads c = c.heads-1.given
+    let i = c.requires.row_bound in
+    let t = c.requires.tables in
+    let no = c.if-canon_of-eq0.false in
+    let n = c.canon_of.ensures in
+    let l = c.wide-list.ensures in
+    record {
+      tables = t;
+      walking = c.requires.walking;
+      row_bound = (i.0, labels t i.0 i.1 c.requires.contexts _ n no _ l);
+      latest_value = label-latest t i.0 i.1 c.requires.contexts _ n no _ l c.context_of.result _ c.labelled-ctx.ensures c.context_of.ensures.0;
+    }
 
 pub returns : goal.returns
 returns c =
-    let i = (c.requires.contexts, c.requires.row_bound) in record { walked = c.label_branches.ensures; labels = (labelled c.requires.tables i.1.0 i.1.1 i.0 _ c.canon_of.ensures c.if-canon_of-eq0.false _
-          c.wide-list.ensures c.context_of.result _ c.labelled-ctx.ensures, ) }
+    let i = c.requires.row_bound in
+    record {
+      walked = c.label_branches.ensures;
+      labels = labelled c.requires.tables i.0 i.1 c.requires.contexts _ c.canon_of.ensures c.if-canon_of-eq0.false _ c.wide-list.ensures c.context_of.result _ c.labelled-ctx.ensures;
+    }

@@ -22,7 +22,7 @@ returns-else-may_declare c = let q = undeclared-gives c.requires.listing _ c.req
 
 pub set_block_label-requires : goal.set_block_label-requires
 set_block_label-requires c = let q = block-asks c.requires.listing _ c.requires.row_bound.0 c.requires.contexts _ c.kind-kind.ensures _ c.detail.ensures
-    c.args.goto-or-label.now c.requires.row_bound.1 c.if-kind-eq-BLOCK.true in record { listing = q.0; list_table = q.1.0; row_bound = q.1.1 }
+    c.args.goto_or_label.now c.requires.row_bound.1 c.if-kind-eq-BLOCK.true in record { listing = q.0; list_table = q.1.0; row_bound = q.1.1 }
 
 pub returns-then-kind-eq-BLOCK : goal.returns-then-kind-eq-BLOCK
 returns-then-kind-eq-BLOCK c = let q = block-gives c.requires.listing _ c.requires.row_bound.0 c.requires.contexts _ c.kind-kind.ensures _

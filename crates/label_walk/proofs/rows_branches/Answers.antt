@@ -58,26 +58,5 @@ loop-r-preserved c =
       n.1,
     )
 
-pub shape_of-lists : goal.shape_of-lists
-shape_of-lists c = c.loop-r.invariant.1
-
-pub shape_of-sheet : goal.shape_of-sheet
-shape_of-sheet c = c.loop-r.invariant.0.so_far.sheet_length
-
-pub shape_of-bindings : goal.shape_of-bindings
-shape_of-bindings c = c.loop-r.invariant.0.so_far.bindings_length
-
-pub shape_of-heads : goal.shape_of-heads
-shape_of-heads c = c.loop-r.invariant.0.heads-length
-
-pub shape_of-goto_or_label : goal.shape_of-goto_or_label
-shape_of-goto_or_label c = c.loop-r.invariant.0.goto-or-label-length
-
-pub shape_of-latest_decls : goal.shape_of-latest_decls
-shape_of-latest_decls c = c.loop-r.invariant.0.latest-decls-length
-
-pub shape_of-latest_labels : goal.shape_of-latest_labels
-shape_of-latest_labels c = c.loop-r.invariant.0.latest-labels-length
-
 pub returns : goal.returns
 returns c = turn_last c.loop-r.invariant.0 c.loop-r-test.false

@@ -17,4 +17,4 @@ offset_bounds-goto_or_label-r c =
 
 pub returns : goal.returns
 returns c =
-    ap (λ (v : ℕ). set c.args.goto-or-label.now c.args.row.0 v) c.current_label.ensures
+    ap (λ (v : ℕ). set c.args.goto_or_label.now c.args.row.0 v) c.current_label.ensures

@@ -11,24 +11,6 @@ kind-requires c = c.requires.row_bound.0
 pub labeled_branches-more-requires : goal.labeled_branches-more-requires
 labeled_branches-more-requires c = let q = labeled-asks c.requires.tables _ c.requires.row_bound.0 c.requires.walking c.requires.contexts_2 _ c.kind.ensures c.in-3.is in record { tables = q.0; walking = q.1.0; contexts = q.1.1.0; row_bound = q.1.1.1 }
 
-pub shape_of-sheet-in-3 : goal.shape_of-sheet-in-3
-shape_of-sheet-in-3 c = c.sheet-1.given
-
-pub shape_of-bindings-in-3 : goal.shape_of-bindings-in-3
-shape_of-bindings-in-3 c = c.bindings-1.given
-
-pub shape_of-heads-in-3 : goal.shape_of-heads-in-3
-shape_of-heads-in-3 c = c.heads-1.given
-
-pub shape_of-goto_or_label-in-3 : goal.shape_of-goto_or_label-in-3
-shape_of-goto_or_label-in-3 c = refl
-
-pub shape_of-latest_decls-in-3 : goal.shape_of-latest_decls-in-3
-shape_of-latest_decls-in-3 c = refl
-
-pub shape_of-latest_labels-in-3 : goal.shape_of-latest_labels-in-3
-shape_of-latest_labels-in-3 c = c.latest_labels-1.given
-
 pub returns-in-3 : goal.returns-in-3
 returns-in-3 c =
     let k = c.in-3.is in
@@ -38,18 +20,6 @@ returns-in-3 c =
 
 pub jump_branches-more-requires : goal.jump_branches-more-requires
 jump_branches-more-requires c = let q = branch-asks c.requires.tables _ c.requires.row_bound.0 c.requires.walking c.requires.contexts_2 _ c.kind.ensures c.in-11.is in record { tables = q.0; walking = q.1.0; row_bound = q.1.1 }
-
-pub shape_of-sheet-in-11 : goal.shape_of-sheet-in-11
-shape_of-sheet-in-11 c = c.sheet-in-11-1.given
-
-pub shape_of-bindings-in-11 : goal.shape_of-bindings-in-11
-shape_of-bindings-in-11 c = c.bindings-in-11-1.given
-
-pub shape_of-heads-in-11 : goal.shape_of-heads-in-11
-shape_of-heads-in-11 c = c.heads-in-11-1.given
-
-pub shape_of-goto_or_label-in-11 : goal.shape_of-goto_or_label-in-11
-shape_of-goto_or_label-in-11 c = c.goto_or_label-1.given
 
 pub returns-in-11 : goal.returns-in-11
 returns-in-11 c =
@@ -64,15 +34,6 @@ plain_branches-requires c = let q = plain-asks c.requires.tables _ c.requires.ro
 pub list_after-after-requires : goal.list_after-after-requires
 list_after-after-requires c =
     let b = c.requires.tables.body in record { sized = (b.sized, b.details, c.requires.row_bound.0, b.most_rows); list_around = c.requires.row_bound.1 }
-
-pub shape_of-goto_or_label-in_default : goal.shape_of-goto_or_label-in_default
-shape_of-goto_or_label-in_default c = c.goto_or_label-in_default-1.given
-
-pub shape_of-latest_decls-in_default : goal.shape_of-latest_decls-in_default
-shape_of-latest_decls-in_default c = c.latest_decls-1.given
-
-pub shape_of-latest_labels-in_default : goal.shape_of-latest_labels-in_default
-shape_of-latest_labels-in_default c = refl
 
 pub returns-in_default : goal.returns-in_default
 returns-in_default c =

@@ -22,4 +22,4 @@ pub returns-then-kind-eq-CASE : goal.returns-then-kind-eq-CASE
 returns-then-kind-eq-CASE c d a = sym (ap (among holders) c.if-kind-eq-CASE.true) ∙ kind-items _ d a
 
 pub returns : goal.returns
-returns-then-kind-eq-BLOCK c d a = last-holder _ c.if-kind-eq-BLOCK.false c.if-kind-eq-CASE.false ∙ kind-items _ d a
+returns c d a = last-holder _ c.if-kind-eq-BLOCK.false c.if-kind-eq-CASE.false ∙ kind-items _ d a

@@ -1,26 +1,18 @@
 -- A row that holds items is in hand after it, and ends where its size says; any other leaves what was in hand.
 -- Assumes nothing.
-use mathlib.Core.Path.{◌≡◌, refl}
+use mathlib.Core.Path.{refl}
 use mathlib.Core.Logic.{inl, inr}
 use native.Mathlib.Omega.{arith}
-use borrow.Author.Rules.{rules}
-use borrow.Author.Tests.{not-true, not-false}
-use Rattle.rules.specs.Class.{class}
 use Rattle.rules.specs.Scope.{holds_items}
 use Rattle.rules.proofs.Lists.{own-items, by-words}
 use Rattle.lists.proofs.Opened.{open_more, ends-here}
 use Rattle.lists.proofs.list_after.Goals as goal
-use Rattle.lists.proofs.list_after.Tie as tie
-
--- what `holds_items` said of the row's class
-own : (c : tie.After-holds_items) → c.holds_items.result ≡ holds_items (class c.args.rows.now c.args.r)
-own c =
-    by-words holds_items _ _ _ _ (own-items _ c.args.r) c.kind.ensures (c.requires.sized.1 c.args.r c.requires.sized.2) c.holds_items.ensures
 
 pub returns-then-not-holds_items : goal.returns-then-not-holds_items
 returns-then-not-holds_items c =
     let h = c.requires.list_around in
-    (open_more _ _ _ _ (own c.before.before) h.0 _ (inr (not-true _ c.if-not-holds_items.true, refl)), h.1)
+    let own = by-words holds_items _ _ _ _ (own-items _ c.args.r) c.kind.ensures (c.requires.sized.1 c.args.r c.requires.sized.2) c.holds_items.ensures in
+    (open_more _ _ _ _ own h.0 _ (inr (c.if-not-holds_items.true, refl)), h.1)
 
 pub overflow_add-end : goal.overflow_add-end
 overflow_add-end c = omega (arith, c.requires.sized, c.requires.sized.0.within c.args.r c.requires.sized.2, c.size.ensures)
@@ -30,7 +22,7 @@ overflow_add-result c = omega (arith, c.requires.sized)
 
 pub returns : goal.returns
 returns c =
-    (
-      open_more _ _ _ _ (own c.before.before.before) c.requires.list_around.0 _ (inl (not-false _ c.if-not-holds_items.false, refl)),
+    let own = by-words holds_items _ _ _ _ (own-items _ c.args.r) c.kind.ensures (c.requires.sized.1 c.args.r c.requires.sized.2) c.holds_items.ensures in (
+      open_more _ _ _ _ own c.requires.list_around.0 _ (inl (c.if-not-holds_items.false, refl)),
       ends-here c.args.rows.now _ _ c.size.ensures,
     )

@@ -10,11 +10,13 @@ returns-then-r-before c =
     (open_kept _ _ _ h.0 _ h.1 c.if-r-before.true, h.1)
 
 pub still_open-list-requires : goal.still_open-list-requires
-still_open-list-requires c = let p = (c.requires.sized, c.requires.r_bound) in record { sized = (p.0.0, p.0.1.0, p.0.2); r_bound = p.1 }
+still_open-list-requires c =
+    let q = c.requires.sized in
+    record { sized = (q.0, q.1.0, q.2); r_bound = c.requires.r_bound }
 
 pub end_of-end-requires : goal.end_of-end-requires
 end_of-end-requires c =
-    let p = (c.requires.sized, c.requires.r_bound) in (p.0.0, omega (arith, p.1, (open-found _ _ _ c.still_open-list.ensures).before))
+    (c.requires.sized.0, omega (arith, c.requires.r_bound, (open-found _ _ _ c.still_open-list.ensures).before))
 
 pub returns : goal.returns
 returns c = (c.still_open-list.ensures, c.end_of-end.ensures)

@@ -1,12 +1,9 @@
 -- The invariant: `around` is the list in hand at r, and the words below r are written. The measure is what is left of the count.
 -- Assumes nothing.
-use mathlib.Core.Path.{◌≡◌, refl}
-use Prim.Native.Nat.{◌-◌, ◌≤◌, ◌<◌}
-use native.Mathlib.Omega.{arith}
-use borrow.Author.Count.{below_none}
-use lib.ListN.{length, length-set}
+use mathlib.Core.Path.{◌≡◌}
+use Prim.Native.Nat.{◌-◌, ◌≤◌}
+use lib.ListN.{length}
 use Rattle.lists.specs.Listed.{InHand, ListedBelow}
-use Rattle.lists.proofs.Opened.{open-found, open_none, ends-none, listed_more}
 use Rattle.lists.proofs.lists_of.Given as goal
 
 abbrev pub invariant-loop-r : goal.invariant-loop-r

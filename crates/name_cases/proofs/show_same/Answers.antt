@@ -4,4 +4,4 @@ use Rattle.std.proofs.Common.{sym, ◌∙◌, rules}
 use Rattle.name_cases.proofs.show_same.Goals as goal
 
 pub same_name-requires : goal.same_name-requires
-same_name-requires c = sym c.names_ok.ensures ∙ c.if-names_ok.true
+same_name-requires g c = sym c.names_ok.ensures ∙ c.if-names_ok.true

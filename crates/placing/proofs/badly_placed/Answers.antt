@@ -14,10 +14,11 @@ pub returns-then-name-ne0 : goal.returns-then-name-ne0
 returns-then-name-ne0 c = named-not-bad _ _ _ c.name-name.ensures c.if-name-ne0.true
 
 pub well_placed-requires : goal.well_placed-requires
-well_placed-requires c = record { formed = c.requires.formed; row_bound = (
-        (c.requires.row_bound, sym c.kind.ensures ∙ c.if-kind-ne-BRANCH.false, sym c.name-name.ensures ∙ c.if-name-ne0.false),
-        c.requires.reach,
-      ); reach =  }
+well_placed-requires c = record {
+  formed = c.requires.formed;
+  row_bound = (c.requires.row_bound, sym c.kind.ensures ∙ c.if-kind-ne-BRANCH.false, sym c.name-name.ensures ∙ c.if-name-ne0.false);
+  reach = c.requires.reach;
+}
 
 pub returns : goal.returns
 returns c = ap not c.well_placed.ensures ∙ not-well-bad _ _ _ c.name-name.ensures c.if-name-ne0.false

@@ -7,150 +7,155 @@ use mathlib.Core.List.{List, [], ◌∷◌}
 use mathlib.Core.Option.{Option, some}
 use Prim.Native.Nat.{ℕ, ◌+◌, ◌-◌, ◌≤◌, ◌<◌}
 use native.Mathlib.Omega.{arith}
-use borrow.Author.Rules.{rules}
 use borrow.Author.Tests.{eq-eqb, ne_eqb}
 use lib.Dec.{eqb}
-use Rattle.rules.specs.Rows.{row_count, end}
-use Rattle.rules.specs.Class.{case_block, switch, one_of, is_switch, is_case, class}
+use lib.ListN.{get_or}
+use Rattle.rules.specs.Rows.{row_count, kind}
+use Rattle.rules.specs.Class.{case_block, switch, one_of, is_switch, is_case, is_statement, class}
 use Rattle.rules.specs.Scope.{innermost, list_of, only_empty}
 use Rattle.rules.specs.Labels.{word}
 use Rattle.rules.proofs.Around.{innermost-found}
 use Rattle.rules.proofs.Lists.{row-case, row-expression-switch}
+use Rattle.placing.specs.Reach.{FormedLists}
 use Rattle.placing.proofs.Ending.{row-none, row-some, list-word, list-before, home-word, switch-before, no-list, no-case}
 use Rattle.placing.proofs.Ending.{no-home, last-case, type-switch, by-rest}
 use Rattle.placing.proofs.ends_case.Goals as goal
-use Rattle.placing.proofs.ends_case.Tie as tie
+use Rattle.placing.proofs.ends_case.Goals.{Else-list-eq0, Else-kind-ne-CASE, Else-block-eq0}
 
-abbrev rows : tie.After-wide-list → List ℕ
-rows c = c.args.rows.now
+-- ---- the list of the row r is c
+record InList (w : List ℕ) (r c : ℕ) : Type 0 where
+  found : list_of w r ≡ some c
+  row : c < row_count w
 
-abbrev row : tie.After-wide-list → ℕ
-row c = c.args.row.0
+-- which is a Case
+record InCase (w : List ℕ) (r c : ℕ) : Type 0 where
+  list : InList w r c
+  is-case : is_case (class w c) ≡ true
 
-abbrev list : tie.After-wide-list → ℕ
-list c = c.wide-list.result - 1
+-- whose Block and switch are the rows that the word u names
+record InSwitch (w : List ℕ) (r c u : ℕ) : Type 0 where
+  case : InCase w r c
+  block : innermost w (one_of (case_block ∷ [])) c ≡ some (u - 1)
+  block-row : u - 1 < row_count w
+  low : 2 ≤ u
+  switch_is : innermost w is_switch c ≡ some (u - 2)
 
-listed : (c : tie.After-wide-list) → c.wide-list.result ≡ word (list_of (rows c) (row c))
-listed c = list-word c.requires.formed_lists (row c) c.requires.row_bound.0 _ c.requires.row_bound.1 c.wide-list.ensures
-
-list-of : (c : tie.Else-list-eq0) → list_of (rows c.before) (row c.before) ≡ some (list c.before)
-list-of c = row-some _ _ (listed c.before) c.if-list-eq0.false
-
-list-row : (c : tie.Else-list-eq0) → list c.before < row_count (rows c.before)
-list-row c = omega (arith, c.requires.row_bound.0, list-before c.requires.formed_lists _ c.requires.row_bound.0 _ (list-of c))
+-- ---- the words of `lists`, as the code read them
+in_list : {w l : List ℕ} {r v : ℕ} → FormedLists w l → r < row_count w → is_statement (class w r) ≡ true → v ≡ get_or l r 0 → (v ≡ 0 → ⊥) → InList w r (v - 1)
+in_list {w} {r} {v} f h s e n =
+    let o : list_of w r ≡ some (v - 1) = row-some _ _ (list-word f r h v s e) n in
+    record { found = o; row = omega (arith, list-before f r h _ o) }
 
 -- the list's kind says whether it is a Case
-case-is : (c : tie.After-kind) → eqb c.kind.result 14 ≡ is_case (class (rows c.before.before) (list c.before.before))
-case-is c = row-case _ _ _ c.kind.ensures (c.requires.formed_lists.formed.2.details _ (list-row c.before))
+case_is : {w l : List ℕ} {r c k : ℕ} → FormedLists w l → InList w r c → k ≡ kind w c → eqb k 14 ≡ is_case (class w c)
+case_is f a e = row-case _ _ _ e (f.formed.2.details _ a.row)
 
-is-case : (c : tie.Else-kind-ne-CASE) → is_case (class (rows c.before.before.before) (list c.before.before.before)) ≡ true
-is-case c = sym (case-is c.before) ∙ eq-eqb _ 14 c.if-kind-ne-CASE.false
+in_case : {w l : List ℕ} {r c k : ℕ} → FormedLists w l → InList w r c → k ≡ kind w c → k ≡ 14 → InCase w r c
+in_case f a e z = record { list = a; is-case = sym (case_is f a e) ∙ eq-eqb _ 14 z }
 
-case-end : (c : tie.After-size) → list c.before.before.before.before + c.size.result ≡ end (rows c.before.before.before.before) (list c.before.before.before.before)
-case-end c = ap (λ (n : ℕ). list c.before.before.before.before + n) c.size.ensures
+block_word : {w l : List ℕ} {r c u : ℕ} → FormedLists w l → InCase w r c → u ≡ get_or l c 0 → u ≡ word (innermost w (one_of (case_block ∷ [])) c)
+block_word f a e = home-word f _ a.list.row _ a.is-case e
 
-case-within : (c : tie.After-size) → list c.before.before.before.before + c.size.result ≤ row_count (rows c.before.before.before.before)
-case-within c = omega (arith, case-end c, c.requires.formed_lists.formed.2.sized.within (list c.before.before.before.before) (list-row c.before.before.before))
+in_switch : {w l : List ℕ} {r c u : ℕ} → FormedLists w l → InCase w r c → u ≡ get_or l c 0 → (u ≡ 0 → ⊥) → InSwitch w r c u
+in_switch {w} {c} {u} f a e n =
+    let o : innermost w (one_of (case_block ∷ [])) c ≡ some (u - 1) = row-some _ _ (block_word f a e) n in
+    let (low, i) = switch-before f c a.list.row u a.is-case o in
+    record {
+      case = a;
+      block = o;
+      block-row = omega (arith, a.list.row, (innermost-found w (one_of (case_block ∷ [])) c (u - 1) o).before);
+      low = low;
+      switch_is = i;
+    }
 
--- the Block of the Case
-abbrev home : tie.After-wide-block → ℕ
-home c = c.wide-block.result - 1
+-- the kind of the switch says which it is
+kind_is : {w l : List ℕ} {r c u k : ℕ} → FormedLists w l → InSwitch w r c u → k ≡ kind w (u - 2) → eqb k 15 ≡ one_of (switch ∷ []) (class w (u - 2))
+kind_is f a e = row-expression-switch _ _ _ e (f.formed.2.details _ (omega (arith, a.block-row)))
 
-abbrev home_found : tie.After-wide-block → Option ℕ
-home_found c = innermost (rows c.before.before.before.before.before.before) (one_of (case_block ∷ [])) (list c.before.before.before.before.before.before)
+-- ---- what the code knows once it has passed a test
+the_list : (c : Else-list-eq0) → InList c.args.rows.now c.args.row.0 (c.wide-list.result - 1)
+the_list c = in_list c.requires.formed_lists c.requires.row_bound.0 c.requires.row_bound.1 c.wide-list.ensures c.if-list-eq0.false
 
-homed : (c : tie.After-wide-block) → c.wide-block.result ≡ word (home_found c)
-homed c =
-    home-word c.requires.formed_lists _ (list-row c.before.before.before.before.before) _ (is-case c.before.before.before) c.wide-block.ensures
+the_case : (c : Else-kind-ne-CASE) → InCase c.args.rows.now c.args.row.0 (c.wide-list.result - 1)
+the_case c =
+    in_case c.requires.formed_lists
+    (in_list c.requires.formed_lists c.requires.row_bound.0 c.requires.row_bound.1 c.wide-list.ensures c.if-list-eq0.false) c.kind.ensures
+    c.if-kind-ne-CASE.false
 
-home_of : (c : tie.Else-block-eq0) → home_found c.before ≡ some (home c.before)
-home_of c = row-some _ _ (homed c.before) c.if-block-eq0.false
-
-home-row : (c : tie.Else-block-eq0) → home c.before < row_count (rows c.before.before.before.before.before.before.before)
-home-row c =
-    omega (arith, list-row c.before.before.before.before.before.before, (innermost-found _ (one_of (case_block ∷ [])) (list c.before.before.before.before.before.before.before) (home c.before) (home_of c)).before)
-
-home-end : (c : tie.After-size-2) →
-    home c.before.before + c.size-2.result ≡ end (rows c.before.before.before.before.before.before.before.before) (home c.before.before)
-home-end c = ap (λ (n : ℕ). home c.before.before + n) c.size-2.ensures
-
--- the switch, right before the Block
-abbrev switch-at : tie.Else-block_end-case_end → ℕ
-switch-at c = c.wide-block.result - 2
-
-switch-found : (c : tie.Else-block_end-case_end) →
-    (2 ≤ c.wide-block.result)
-    × (innermost (rows c.before.before.before.before.before.before.before.before.before) is_switch (list c.before.before.before.before.before.before.before.before.before) ≡ some (switch-at c))
-switch-found c =
-    switch-before c.requires.formed_lists (list c.before.before.before.before.before.before.before.before.before) (list-row c.before.before.before.before.before.before.before.before) _ (is-case c.before.before.before.before.before.before) (home_of c.before.before)
-
-switch-within : (c : tie.Else-block_end-case_end) → switch-at c < row_count (rows c.before.before.before.before.before.before.before.before.before)
-switch-within c = omega (arith, home-row c.before.before)
-
--- its kind says which switch it is
-switch-is : (c : tie.After-kind-2) → eqb c.kind-2.result 15 ≡ one_of (switch ∷ []) (class (rows c.before.before.before.before.before.before.before.before.before.before) (switch-at c.before))
-switch-is c =
-    row-expression-switch _ _ _ c.kind-2.ensures (c.requires.formed_lists.formed.2.details _ (switch-within c.before))
-
--- the Block goes on after the Case
-goes_on : (c : tie.Else-block_end-case_end) →
-    end (rows c.before.before.before.before.before.before.before.before.before) (list c.before.before.before.before.before.before.before.before.before) < end (rows c.before.before.before.before.before.before.before.before.before) (home c.before.before.before)
-goes_on c = omega (arith, home-end c.before, case-end c.before.before.before.before.before)
+the_switch : (c : Else-block-eq0) → InSwitch c.args.rows.now c.args.row.0 (c.wide-list.result - 1) c.wide-block.result
+the_switch c =
+    in_switch c.requires.formed_lists
+    (in_case c.requires.formed_lists
+    (in_list c.requires.formed_lists c.requires.row_bound.0 c.requires.row_bound.1 c.wide-list.ensures c.if-list-eq0.false) c.kind.ensures
+    c.if-kind-ne-CASE.false)
+    c.wide-block.ensures c.if-block-eq0.false
 
 pub returns-then-list-eq0 : goal.returns-then-list-eq0
-returns-then-list-eq0 c = no-list _ _ (row-none _ _ (listed c.before.before) c.if-list-eq0.true)
+returns-then-list-eq0 c =
+    no-list _ _ (row-none _ _ (list-word c.requires.formed_lists _ c.requires.row_bound.0 _ c.requires.row_bound.1 c.wide-list.ensures)
+    c.if-list-eq0.true)
 
 pub kind-requires : goal.kind-requires
-kind-requires c = list-row c.before
+kind-requires c = (the_list (goal.at.kind-requires c).Else-list-eq0).row
 
 pub returns-then-kind-ne-CASE : goal.returns-then-kind-ne-CASE
-returns-then-kind-ne-CASE c = no-case _ _ _ (list-of c.before.before.before) (sym (case-is c.before.before) ∙ ne_eqb _ 14 c.if-kind-ne-CASE.true)
+returns-then-kind-ne-CASE c =
+    let a = the_list (goal.at.returns-then-kind-ne-CASE c).Else-list-eq0 in
+    no-case _ _ _ a.found (sym (case_is c.requires.formed_lists a c.kind.ensures) ∙ ne_eqb _ 14 c.if-kind-ne-CASE.true)
 
 pub size-requires : goal.size-requires
-size-requires c = list-row c.before.before.before
+size-requires c = (the_list (goal.at.size-requires c).Else-list-eq0).row
 
 pub overflow_add-case_end : goal.overflow_add-case_end
-overflow_add-case_end c = omega (arith, case-within c.before)
+overflow_add-case_end c =
+    let a = the_list (goal.at.overflow_add-case_end c).Else-list-eq0 in
+    omega (arith, c.size.ensures, c.requires.formed_lists.formed.2.sized.within _ a.row)
 
 pub offset_bounds-lists-case : goal.offset_bounds-lists-case
-offset_bounds-lists-case c = omega (arith, list-row c.before.before.before.before)
+offset_bounds-lists-case c = omega (arith, (the_list (goal.at.offset_bounds-lists-case c).Else-list-eq0).row)
 
 pub bounds-lists-case : goal.bounds-lists-case
-bounds-lists-case c =
-    omega (arith, list-row c.before.before.before.before.before, c.requires.formed_lists.enough)
+bounds-lists-case c = omega (arith, (the_list (goal.at.bounds-lists-case c).Else-list-eq0).row, c.requires.formed_lists.enough)
 
 pub returns-then-block-eq0 : goal.returns-then-block-eq0
 returns-then-block-eq0 c =
-    no-home _ _ _ (list-of c.before.before.before.before.before.before.before) (is-case c.before.before.before.before.before) (row-none _ _ (homed c.before.before) c.if-block-eq0.true)
+    let a = the_case (goal.at.returns-then-block-eq0 c).Else-kind-ne-CASE in
+    no-home _ _ _ a.list.found a.is-case (row-none _ _ (block_word c.requires.formed_lists a c.wide-block.ensures) c.if-block-eq0.true)
 
 pub size-requires-2 : goal.size-requires-2
-size-requires-2 c = home-row c.before
+size-requires-2 c = (the_switch (goal.at.size-requires-2 c).Else-block-eq0).block-row
 
 pub overflow_add-block_end : goal.overflow_add-block_end
 overflow_add-block_end c =
-    omega (arith, home-end c.before, c.requires.formed_lists.formed.2.sized.within (home c.before.before.before) (home-row c.before.before))
+    let a = the_switch (goal.at.overflow_add-block_end c).Else-block-eq0 in
+    omega (arith, c.size-2.ensures, c.requires.formed_lists.formed.2.sized.within _ a.block-row)
 
 pub returns-then-block_end-case_end : goal.returns-then-block_end-case_end
 returns-then-block_end-case_end c =
-    last-case _ _ _ (list-of c.before.before.before.before.before.before.before.before.before) (is-case c.before.before.before.before.before.before.before) _ (home_of c.before.before.before) (omega (arith, home-end c.before.before, case-end c.before.before.before.before.before.before))
+    let a = the_switch (goal.at.returns-then-block_end-case_end c).Else-block-eq0 in
+    last-case _ _ _ a.case.list.found a.case.is-case _ a.block (omega (arith, c.size.ensures, c.size-2.ensures))
 
 pub overflow_sub-block-2 : goal.overflow_sub-block-2
-overflow_sub-block-2 c = (switch-found c.before).0
+overflow_sub-block-2 c = (the_switch (goal.at.overflow_sub-block-2 c).Else-block-eq0).low
 
 pub kind-requires-2 : goal.kind-requires-2
-kind-requires-2 c = switch-within c.before
+kind-requires-2 c = omega (arith, (the_switch (goal.at.kind-requires-2 c).Else-block-eq0).block-row)
 
 pub returns-then-kind-ne-SWITCH : goal.returns-then-kind-ne-SWITCH
 returns-then-kind-ne-SWITCH c =
-    type-switch _ _ _ (list-of c.before.before.before.before.before.before.before.before.before.before.before) (is-case c.before.before.before.before.before.before.before.before.before) _ (home_of c.before.before.before.before.before) (goes_on c.before.before.before) _ (switch-found c.before.before.before).1
-    (sym (switch-is c.before.before) ∙ ne_eqb _ 15 c.if-kind-ne-SWITCH.true)
+    let a = the_switch (goal.at.returns-then-kind-ne-SWITCH c).Else-block-eq0 in
+    type-switch _ _ _ a.case.list.found a.case.is-case _ a.block (omega (arith, c.size.ensures, c.size-2.ensures)) _
+    a.switch_is
+    (sym (kind_is c.requires.formed_lists a c.kind-2.ensures) ∙ ne_eqb _ 15 c.if-kind-ne-SWITCH.true)
 
 pub only_empty-requires : goal.only_empty-requires
 only_empty-requires c =
-    (c.requires.formed_lists.formed.2.details, case-within c.before.before.before.before.before.before.before.before)
+    let a = the_list (goal.at.only_empty-requires c).Else-list-eq0 in
+    let s = c.requires.formed_lists.formed.2 in (s.details, omega (arith, c.size.ensures, s.sized.within _ a.row))
 
 pub returns : goal.returns
 returns c =
-    c.only_empty.ensures ∙ ap (only_empty (rows c.before.before.before.before.before.before.before.before.before.before.before.before.before) (row c.before.before.before.before.before.before.before.before.before.before.before.before.before + 1)) (case-end c.before.before.before.before.before.before.before.before.before)
-    ∙ by-rest _ _ _ (list-of c.before.before.before.before.before.before.before.before.before.before.before.before) (is-case c.before.before.before.before.before.before.before.before.before.before) _ (home_of c.before.before.before.before.before.before) (goes_on c.before.before.before.before) _ (switch-found c.before.before.before.before).1
-    (sym (switch-is c.before.before.before) ∙ eq-eqb _ 15 c.if-kind-ne-SWITCH.false)
+    let a = the_switch (goal.at.returns c).Else-block-eq0 in
+    c.only_empty.ensures ∙ ap (only_empty c.args.rows.now (c.args.row.0 + 1)) (ap (λ (n : ℕ). c.wide-list.result - 1 + n) c.size.ensures)
+    ∙ by-rest _ _ _ a.case.list.found a.case.is-case _ a.block (omega (arith, c.size.ensures, c.size-2.ensures)) _ a.switch_is
+        (sym (kind_is c.requires.formed_lists a c.kind-2.ensures) ∙ eq-eqb _ 15 c.if-kind-ne-SWITCH.false)

@@ -10,11 +10,6 @@ use Rattle.rules.proofs.Lists.{own-breakable, own-loop, by-words}
 use Rattle.placing.proofs.Counting.{Known, known_over}
 use Rattle.placing.proofs.Reaching.{reach-none, reach-more}
 use Rattle.placing.proofs.first_badly_placed.Goals as goal
-use Rattle.placing.proofs.first_badly_placed.Tie as tie
-
--- row 0 holds all rows
-whole : (s : tie.Start goal.the-invariant-loop-r goal.the-decreases-loop-r) → end s.args.rows.now 0 ≡ row_count s.args.rows.now
-whole s = omega (arith, s.requires.0.2.root_size)
 
 pub next_that_counts-r-requires : goal.next_that_counts-r-requires
 next_that_counts-r-requires c = (c.requires.0.2.details, omega arith, omega arith)
@@ -37,7 +32,7 @@ pub returns-then-badly_placed : goal.returns-then-badly_placed
 unfolding placing
 returns-then-badly_placed c =
     let w = c.args.rows.now in
-    sym (found-lowest (badly_placed w) (row_count w) c.loop-r.r (omega (arith, whole c.before.before.before.before.before.before.before.before.before.before, c.loop-r-test.true))
+    sym (found-lowest (badly_placed w) (row_count w) c.loop-r.r (omega (arith, c.loop-r-test.true, c.requires.0.2.root_size))
     (sym c.badly_placed.ensures ∙ c.if-badly_placed.true) c.loop-r.invariant.0)
 
 pub kind-kind-requires : goal.kind-kind-requires
@@ -49,18 +44,6 @@ size-requires c = c.loop-r-test.true
 pub overflow_add-end : goal.overflow_add-end
 overflow_add-end c =
     omega (arith, c.size.ensures, c.requires.0.2.sized.within c.loop-r.r c.loop-r-test.true)
-
-pub is_breakable-requires : goal.is_breakable-requires
-is_breakable-requires c = tt
-
-pub later_end-break_end-requires : goal.later_end-break_end-requires
-later_end-break_end-requires c = tt
-
-pub is_loop-requires : goal.is_loop-requires
-is_loop-requires c = tt
-
-pub later_end-loop_end-requires : goal.later_end-loop_end-requires
-later_end-loop_end-requires c = tt
 
 pub overflow_add-r : goal.overflow_add-r
 overflow_add-r c = omega (arith, c.loop-r-test.true)
@@ -87,4 +70,4 @@ loop-r-preserved d =
 pub returns : goal.returns
 unfolding placing
 returns c =
-    sym (none-lowest _ _ (λ k h. c.loop-r.invariant.0 k (omega (arith, whole c.before.before.before.before.before.before, c.loop-r-test.false))))
+    sym (none-lowest _ _ (λ k h. c.loop-r.invariant.0 k (omega (arith, c.loop-r-test.false, c.requires.0.2.root_size))))

@@ -12,4 +12,4 @@ pub returns-then-detail-ne-FALLTHROUGH : goal.returns-then-detail-ne-FALLTHROUGH
 returns-then-detail-ne-FALLTHROUGH c _ f = c.if-detail-ne-FALLTHROUGH.true (c.detail.ensures ∙ f.1)
 
 pub returns : goal.returns
-returns-then-kind-ne-BRANCH c e f = eqb-false _ 0 e (c.name_word.ensures ∙ f.2)
+returns c e f = eqb-false _ 0 e (c.name_word.ensures ∙ f.2)

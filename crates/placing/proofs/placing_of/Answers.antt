@@ -12,7 +12,6 @@ use Rattle.body.specs.Given.{given}
 use Rattle.names.specs.Place.{place}
 use borrow.Author.Rules.{rules}
 use Rattle.placing.proofs.placing_of.Goals as goal
-use Rattle.placing.proofs.placing_of.Tie as tie
 
 module _ (w p b : List ℕ) where
   call-refused : (x : ℕ × ℕ) → refusal w p b ≡ some x → refused x.0 x.1 ≡ placing_call w p b
@@ -23,21 +22,14 @@ module _ (w p b : List ℕ) where
   unfolding placing_call
   call-answered e f = rw (e, placing_call) (ap answered f)
 
--- nothing is refused
-none-refused : (c : tie.In-WellFormed) →
-    let s = c.args in refusal s.rows.now s.pairs.now s.bytes.now ≡ none
-none-refused c = sym c.refusal_of.ensures ∙ ap given c.enum_told-1.given.1
-
 pub placed-requires : goal.placed-requires
-placed-requires c = (_, _, body _ _ _ (none-refused c.before))
+placed-requires c = (_, _, body _ _ _ (sym c.in-WellFormed.ensures))
 
 pub returns-in-Refused : goal.returns-in-Refused
-returns-in-Refused c = call-refused _ _ _ _ (sym c.refusal_of.ensures ∙ ap given c.in-Refused.is)
+returns-in-Refused c = call-refused _ _ _ _ (sym c.in-Refused.ensures)
 
 pub returns-in-At : goal.returns-in-At
-returns-in-At c =
-    call-answered _ _ _ (none-refused c.before.before.before.before.before) (sym (ap place c.in-At.is) ∙ c.placed.ensures)
+returns-in-At c = call-answered _ _ _ (sym c.in-WellFormed.ensures) c.in-At.ensures
 
 pub returns-in-Nowhere : goal.returns-in-Nowhere
-returns-in-Nowhere c =
-    call-answered _ _ _ (none-refused c.before.before.before.before) (sym (ap place c.in-Nowhere.is) ∙ c.placed.ensures)
+returns-in-Nowhere c = call-answered _ _ _ (sym c.in-WellFormed.ensures) c.in-Nowhere.ensures

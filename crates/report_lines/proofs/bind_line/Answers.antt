@@ -23,4 +23,4 @@ returns c =
     let n = c.number_and-end.ensures in
     let w = c.word_and.ensures in
     let s = c.args in
-    let h : s.row < 10000 = omega arith in record { text = bind-put s.bindings.now s.row c.if-word-eq0.false n w.0; most = omega (arith, w.1, number-ends 3 _ h (omega arith) n) }
+    let h : s.row < 10000 = omega arith in record { text = bind-put s.bindings.now s.row c.if-word-eq0.false n w.text; most = omega (arith, w.most, number-ends 3 _ h (omega arith) n) }

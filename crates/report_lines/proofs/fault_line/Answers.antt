@@ -9,4 +9,4 @@ pub returns : goal.returns
 returns c =
     let second = c.word_and-position.ensures in
     let third = c.word_and-name.ensures in
-    let fourth = c.word_and.ensures in record { text = fault-put _ _ c.word_and-code.ensures.text second.0 third.0 fourth.0; most = omega (arith, c.word_and-code.ensures.most, second.1, third.1, fourth.1) }
+    let fourth = c.word_and.ensures in record { text = fault-put _ _ c.word_and-code.ensures.text second.text third.text fourth.text; most = omega (arith, c.word_and-code.ensures.most, second.most, third.most, fourth.most) }

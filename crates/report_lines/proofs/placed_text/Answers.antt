@@ -10,7 +10,7 @@ use Rattle.report_lines.proofs.placed_text.Goals as goal
 
 pub returns-in-At : goal.returns-in-At
 returns-in-At c =
-    let b = c.title.ensures in record { text = same_text (sym (ap (λ p. placed_text (place p)) c.in-At.is)) b.0; most = omega (arith, b.1) }
+    let b = c.title.ensures in record { text = same_text (sym (ap (λ p. placed_text (place p)) c.in-At.is)) b.text; most = omega (arith, b.most) }
 
 pub returns-in-Nowhere : goal.returns-in-Nowhere
 returns-in-Nowhere c =

@@ -11,4 +11,4 @@ pub returns : goal.returns
 returns c =
     let b = c.bytes-named.ensures in
     let w = c.word_and-end.ensures in
-    let n = c.number_and.ensures in record { text = refused-put _ _ b w.0 n; counts = (counts _ _ (omega (arith, b.ends, b.same_length, w.1, w.0.same_length, any-ends _ _ n, n.same_length)), ) }
+    let n = c.number_and.ensures in record { text = refused-put _ _ b w.text n; counts = counts _ _ (omega (arith, b.ends, b.same_length, w.most, w.text.same_length, any-ends _ _ n, n.same_length)) }

@@ -14,13 +14,13 @@ pub fault_line-end-requires : goal.fault_line-end-requires
 fault_line-end-requires c =
     let t = c.title-end.ensures in
     let i = c.loop-i.invariant in
-    (omega arith, omega (arith, t.0.same_length, t.1, i.1.0, i.1.1.same_length))
+    (omega arith, omega (arith, t.text.same_length, t.most, i.1.0, i.1.1.same_length))
 
 pub loop-i-preserved : goal.loop-i-preserved
 loop-i-preserved c =
     let f = c.fault_line-end.ensures in
-    (omega arith, (omega (arith, c.loop-i.invariant.1.0, f.1), next-line _ c.loop-i.i c.loop-i.invariant.1.1 f.0))
+    (omega arith, (omega (arith, c.loop-i.invariant.1.0, f.most), next-line _ c.loop-i.i c.loop-i.invariant.1.1 f.text))
 
 pub returns : goal.returns
 returns c =
-    let t = c.title-end.ensures in record { text = sheet-put _ _ c.loop-i.i (omega arith) t.0 c.loop-i.invariant.1.1; most = omega (arith, t.1, c.loop-i.invariant.1.0) }
+    let t = c.title-end.ensures in record { text = sheet-put _ _ c.loop-i.i (omega arith) t.text c.loop-i.invariant.1.1; most = omega (arith, t.most, c.loop-i.invariant.1.0) }

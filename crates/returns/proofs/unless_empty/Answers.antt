@@ -1,7 +1,6 @@
 -- The kind is 2 exactly where the test says so.
 -- Assumes nothing.
 use mathlib.Core.Path.{refl, ◌∙◌, sym}
-use borrow.Author.Rules.{rules}
 use Rattle.returns.proofs.unless_empty.Goals as goal
 
 pub returns-then-kind-ne-EMPTY : goal.returns-then-kind-ne-EMPTY

@@ -5,7 +5,6 @@ use mathlib.Core.Bool.{Bool}
 use mathlib.Core.List.{List}
 use mathlib.Core.Option.{some}
 use Prim.Native.Nat.{ℕ}
-use borrow.Author.Rules.{rules}
 use Rattle.rules.specs.Refusals.{refusal, WellFormed}
 use Rattle.rules.specs.Calls.{refused, answered, verdict_call}
 use Rattle.rules.proofs.Facts as facts

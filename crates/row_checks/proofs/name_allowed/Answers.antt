@@ -5,7 +5,6 @@ use mathlib.Core.Bool.{true, not, ◌&&◌}
 use Prim.Native.Nat.{ℕ, ◌≤◌}
 use native.Mathlib.Omega.{arith}
 use lib.Dec.{eqb, leb}
-use borrow.Author.Rules.{rules}
 use borrow.Author.Tests.{ne_eqb, leb-true, leb-false}
 use Rattle.rules.specs.Class.{class_of}
 use Rattle.rules.specs.Refusals.{name_allowed}

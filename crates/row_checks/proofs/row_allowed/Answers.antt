@@ -5,15 +5,13 @@ use mathlib.Core.Bool.{true, false, not}
 use mathlib.Core.List.{List}
 use Prim.Native.Nat.{ℕ}
 use native.Mathlib.Omega.{arith}
-use borrow.Author.Rules.{rules}
-use borrow.Author.Tests.{not-true, not-false, lt-ltb, le-ltb}
+use borrow.Author.Tests.{lt-ltb, le-ltb}
 use Rattle.rules.specs.Rows.{kind, detail, position, name}
 use Rattle.rules.specs.Class.{detail_allowed, class_of, base}
 use Rattle.rules.specs.Names.{count_of_pairs}
 use Rattle.rules.specs.Refusals.{name_allowed, bad_row}
 use Rattle.rules.proofs.Test.{case-of}
 use Rattle.row_checks.proofs.row_allowed.Goals as goal
-use Rattle.row_checks.proofs.row_allowed.Tie as tie
 
 module _ (w p : List ℕ) (r k d : ℕ) (ek : k ≡ kind w r) (ed : d ≡ detail w r) where
   bad-detail : detail_allowed k d ≡ false → false ≡ not (bad_row w p r)
@@ -35,25 +33,21 @@ module _ (w p : List ℕ) (r k d : ℕ) (ek : k ≡ kind w r) (ed : d ≡ detail
         let s : name_allowed (class_of k d) m n ≡ name_allowed (base w r) (count_of_pairs p) (name w r) = cc in
         s ∙ case-of (name_allowed (base w r) (count_of_pairs p) (name w r)) (λ a. rw (e, l, a, bad_row)) (λ a. rw (e, l, a, bad_row))
 
--- past the first test the detail is allowed
-passed : (c : tie.Else-not-detail_allowed) → detail_allowed c.kind-kind.result c.detail-detail.result ≡ true
-passed c = sym c.detail_allowed.ensures ∙ not-false c.detail_allowed.result c.if-not-detail_allowed.false
-
 pub returns-then-not-detail_allowed : goal.returns-then-not-detail_allowed
 returns-then-not-detail_allowed c p many =
     bad-detail _ p _ _ _ c.kind-kind.ensures c.detail-detail.ensures
-    (sym c.detail_allowed.ensures ∙ not-true c.detail_allowed.result c.if-not-detail_allowed.true)
+    (sym c.detail_allowed.ensures ∙ c.if-not-detail_allowed.true)
 
 pub returns-then-position-eq0 : goal.returns-then-position-eq0
 returns-then-position-eq0 c p many =
-    bad-position _ p _ _ _ c.kind-kind.ensures c.detail-detail.ensures (passed c.before.before.before) _ c.position.ensures
+    bad-position _ p _ _ _ c.kind-kind.ensures c.detail-detail.ensures (sym c.detail_allowed.ensures ∙ c.if-not-detail_allowed.false) _ c.position.ensures
     c.if-position-eq0.true
 
 pub name_allowed-requires : goal.name_allowed-requires
-name_allowed-requires c = passed c.before.before.before.before
+name_allowed-requires c = sym c.detail_allowed.ensures ∙ c.if-not-detail_allowed.false
 
 pub returns : goal.returns
-returns-then-not-detail_allowed c p many =
+returns c p many =
     c.name_allowed.ensures
-    ∙ by_name _ p _ _ _ c.kind-kind.ensures c.detail-detail.ensures (passed c.before.before.before.before.before) _ c.position.ensures
+    ∙ by_name _ p _ _ _ c.kind-kind.ensures c.detail-detail.ensures (sym c.detail_allowed.ensures ∙ c.if-not-detail_allowed.false) _ c.position.ensures
     c.if-position-eq0.false _ c.name-name.ensures _ many

@@ -1,14 +1,13 @@
 -- Row 0 is allowed, a Block of all rows and 1 deep, so it is a list and every other row is below it; and the walk says that the rows below it are right.
 -- Assumes nothing.
 use mathlib.Core.Path.{◌≡◌, refl, sym, ◌∙◌, ap, subst}
-use mathlib.Core.Bool.{true, false}
+use mathlib.Core.Bool.{Bool, true, false, not}
 use mathlib.Core.List.{List, [], ◌∷◌}
 use Prim.Native.Nat.{ℕ, ◌≤◌, ◌<◌}
 use native.Mathlib.Omega.{arith}
 use native.Mathlib.Decide.{ℕ_discrete}
 use lib.Dec.{eqb}
-use borrow.Author.Rules.{rules}
-use borrow.Author.Tests.{not-true, not-false, eqb-true}
+use borrow.Author.Tests.{not-true, eqb-true}
 use Rattle.rules.specs.Rows.{row_count, size}
 use Rattle.rules.specs.Class.{block, one_of, base, class}
 use Rattle.rules.specs.Refusals.{holding, is_body, bad_row}
@@ -20,9 +19,8 @@ use Rattle.shape.specs.DetailedTo.{DetailedTo}
 use Rattle.row_checks.specs.Parts.{is_list, item_kind}
 use Rattle.row_checks.specs.Right.{Right, RightBelow, Met}
 use Rattle.rows_fit.proofs.Deeper.{root-depth}
-use Rattle.row_checks.proofs.RightRows.{right-size, right-shape, never}
+use Rattle.row_checks.proofs.RightRows.{right-size, right-shape}
 use Rattle.rows_fit.proofs.well_formed_rows.Goals as goal
-use Rattle.rows_fit.proofs.well_formed_rows.Tie as tie
 
 root-details : (w p : List ℕ) → bad_row w p 0 ≡ false → DetailedTo w 0
 root-details w p g k l = let z : 0 ≡ k = omega arith in (good-row w p k (subst (λ (r : ℕ). bad_row w p r ≡ false) z g)).detailed
@@ -66,26 +64,20 @@ module _ (w p : List ℕ) (some : 0 < row_count w) (g : bad_row w p 0 ≡ false)
         | no n ↦ o.right k (omega arith) (omega arith)
       ]
 
--- ---- what the two tests say
-allowed : (c : tie.Else-not-row_allowed) → bad_row c.args.rows.now c.args.pairs.now 0 ≡ false
-allowed c = not-true _ (sym (c.row_allowed.ensures _ refl) ∙ not-false _ c.if-not-row_allowed.false)
-
-a_body : (c : tie.Else-not-is_body) → is_body c.args.rows.now ≡ true
-a_body c = sym c.is_body.ensures ∙ not-false _ c.if-not-is_body.false
-
-pub returns-then-not-row_allowed : goal.returns-then-not-row_allowed
-returns-then-not-row_allowed c = never
+-- ---- what the first test says
+allowed : (w p : List ℕ) {t : Bool} → t ≡ not (bad_row w p 0) → t ≡ true → bad_row w p 0 ≡ false
+allowed w p e y = not-true _ (sym e ∙ y)
 
 pub is_body-requires : goal.is_body-requires
-is_body-requires c = (c.requires.0, root-details c.args.rows.now c.args.pairs.now (allowed c.before))
-
-pub returns-then-not-is_body : goal.returns-then-not-is_body
-returns-then-not-is_body c = never
+is_body-requires c =
+    (c.requires.0, root-details c.args.rows.now c.args.pairs.now (allowed _ _ (c.row_allowed.ensures _ refl) c.if-not-row_allowed.false))
 
 pub list_fits-requires : goal.list_fits-requires
 list_fits-requires c =
-    root-list c.args.rows.now c.args.pairs.now c.requires.0 (allowed c.before.before.before) (a_body c.before) c.requires.1
+    root-list c.args.rows.now c.args.pairs.now c.requires.0 (allowed _ _ (c.row_allowed.ensures _ refl) c.if-not-row_allowed.false)
+    (sym c.is_body.ensures ∙ c.if-not-is_body.false) c.requires.1
 
 pub returns : goal.returns
-returns-then-not-row_allowed c y =
-    all_right c.args.rows.now c.args.pairs.now c.requires.0 (allowed c.before.before.before.before) (a_body c.before.before) (c.list_fits.ensures y _ refl)
+returns c y =
+    all_right c.args.rows.now c.args.pairs.now c.requires.0 (allowed _ _ (c.row_allowed.ensures _ refl) c.if-not-row_allowed.false)
+    (sym c.is_body.ensures ∙ c.if-not-is_body.false) (c.list_fits.ensures y _ refl)

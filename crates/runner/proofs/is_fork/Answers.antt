@@ -30,4 +30,4 @@ pub returns-in-20 : goal.returns-in-20
 returns-in-20 c = fork-arm c.requires.0.2 _ c.requires.1 _ 20 c.kind.ensures c.in-20.is
 
 pub returns-in_default : goal.returns-in_default
-returns-in_default c = fork-rest c.requires.0.2 _ c.requires.1 _ c.kind.ensures c.in_default.rest
+returns-in_default c = fork-rest c.requires.0.2 _ c.requires.1 _ c.kind.ensures (search rules)

@@ -11,20 +11,14 @@ use Rattle.runner.specs.Rounds.{Goes}
 use Rattle.runner.proofs.Turns.{row_word, row_inside, first-in, first-inside}
 use Rattle.runner.proofs.Rounding.{goes-start, goes-more}
 use Rattle.runner.proofs.round_from.Goals as goal
-use Rattle.runner.proofs.round_from.Tie as tie
+use Rattle.runner.proofs.round_from.Goals.{After-is_fork, After-wide-here}
 
 -- ---- the row in hand
-abbrev row : tie.At-loop-round goal.the-invariant-loop-round goal.the-decreases-loop-round → ℕ
+abbrev row : After-is_fork → ℕ
 row c = c.loop-round.here - 2
 
-body : (c : tie.At-loop-round goal.the-invariant-loop-round goal.the-decreases-loop-round) → Body c.args.rows.now c.args.pairs.now c.args.bytes.now
-body c = facts.body _ _ _ c.requires.faultless.0.well_formed
-
-inside : (c : tie.At-loop-round goal.the-invariant-loop-round goal.the-decreases-loop-round) → 2 ≤ c.loop-round.here → Inside c.args.rows.now (at (row c))
-inside c h = row_inside _ _ h c.loop-round.invariant.0
-
-fork-row : (c : tie.After-is_fork goal.the-invariant-loop-round goal.the-decreases-loop-round) → Inside c.args.rows.now (at (row c.before.before.before))
-fork-row c = inside c.before.before.before c.if-here-lt2.false
+stands : (c : After-is_fork) → Inside c.args.rows.now (at (row c))
+stands c = row_inside _ _ c.if-here-lt2.false c.loop-round.invariant.0
 
 pub loop-round-init : goal.loop-round-init
 loop-round-init c = (c.requires.inside, goes-start _ _ _ c.args.place)
@@ -33,48 +27,53 @@ pub returns-then-here-lt2 : goal.returns-then-here-lt2
 returns-then-here-lt2 c = goes-start _ _ _ c.args.place
 
 pub is_fork-requires : goal.is_fork-requires
-is_fork-requires c = ((_, _, body c.before.before.before), (inside c.before.before.before c.if-here-lt2.false).0)
+is_fork-requires c =
+    ((_, _, facts.body _ _ _ c.requires.faultless.0.well_formed), (row_inside _ _ c.if-here-lt2.false c.loop-round.invariant.0).0)
 
 pub returns-then-is_fork : goal.returns-then-is_fork
 returns-then-is_fork c = goes-start _ _ _ c.args.place
 
 pub offset_bounds-firsts-row : goal.offset_bounds-firsts-row
-offset_bounds-firsts-row c = omega (arith, (fork-row c.before.before).0, (body c.before.before.before.before.before).most_rows)
+offset_bounds-firsts-row c =
+    omega (arith, (stands (goal.at.offset_bounds-firsts-row c).After-is_fork).0, (facts.body _ _ _ c.requires.faultless.0.well_formed).most_rows)
 
 pub bounds-firsts-row : goal.bounds-firsts-row
-bounds-firsts-row c = omega (arith, (fork-row c.before.before.before).0, c.requires.faultless.1.room)
+bounds-firsts-row c = omega (arith, (stands (goal.at.bounds-firsts-row c).After-is_fork).0, c.requires.faultless.1.room)
 
 pub offset_bounds-steps-wide : goal.offset_bounds-steps-wide
-offset_bounds-steps-wide c = omega (arith, c.wide.ensures, c.shared_slice_known-in-loop-round-1.given (row c.before.before.before.before.before.before.before))
+offset_bounds-steps-wide c =
+    omega (arith, c.wide.ensures, c.type_inv.firsts (row (goal.at.offset_bounds-steps-wide c).After-is_fork))
 
 pub bounds-steps-wide : goal.bounds-steps-wide
 bounds-steps-wide c =
-    omega (arith, c.wide.ensures, first-in c.requires.faultless.0 c.requires.faultless.1 (row c.before.before.before.before.before.before.before.before) (fork-row c.before.before.before.before.before))
+    let t = (goal.at.bounds-steps-wide c).After-is_fork in
+    omega (arith, c.wide.ensures, first-in c.requires.faultless.0 c.requires.faultless.1 (row t) (stands t))
 
 -- the place after it
-next_place : (c : tie.After-wide-here goal.the-invariant-loop-round goal.the-decreases-loop-round) → 
-    c.wide-here.result ≡ get_or c.args.steps.now (get_or c.args.firsts.now (row c.before.before.before.before.before.before.before.before) 0) 0
+next_place : (c : After-wide-here) →
+    c.wide-here.result ≡ get_or c.args.steps.now (get_or c.args.firsts.now (c.loop-round.here - 2) 0) 0
 next_place c = c.wide-here.ensures ∙ ap (λ (n : ℕ). get_or c.args.steps.now n 0) c.wide.ensures
 
-next-stands : (c : tie.After-wide-here goal.the-invariant-loop-round goal.the-decreases-loop-round) →
-    Inside c.args.rows.now (place_of c.wide-here.result)
+next-stands : (c : After-wide-here) → Inside c.args.rows.now (place_of c.wide-here.result)
 next-stands c =
-    subst (λ (q : ℕ). Inside c.args.rows.now (place_of q)) (sym (next_place c)) (first-inside c.requires.faultless.0 c.requires.faultless.1 (row c.before.before.before.before.before.before.before.before) (fork-row c.before.before.before.before.before))
+    subst (λ (q : ℕ). Inside c.args.rows.now (place_of q)) (sym (next_place c))
+    (first-inside c.requires.faultless.0 c.requires.faultless.1 (c.loop-round.here - 2) (row_inside _ _ c.if-here-lt2.false c.loop-round.invariant.0))
 
-next-round : (c : tie.After-wide-here goal.the-invariant-loop-round goal.the-decreases-loop-round) → 
+next-round : (c : After-wide-here) →
     Goes c.args.rows.now c.args.pairs.now c.args.bytes.now c.args.place (c.loop-round.round + 1) c.wide-here.result
 next-round c =
     subst (Goes c.args.rows.now c.args.pairs.now c.args.bytes.now c.args.place (c.loop-round.round + 1)) (sym (next_place c))
-    (goes-more _ _ _ c.requires.faultless.0 c.requires.faultless.1 c.args.place c.loop-round.round c.loop-round.here (row c.before.before.before.before.before.before.before.before)
-    (row_word _ c.if-here-lt2.false) (fork-row c.before.before.before.before.before) c.loop-round.invariant.1
+    (goes-more _ _ _ c.requires.faultless.0 c.requires.faultless.1 c.args.place c.loop-round.round c.loop-round.here (c.loop-round.here - 2)
+    (row_word _ c.if-here-lt2.false) (row_inside _ _ c.if-here-lt2.false c.loop-round.invariant.0) c.loop-round.invariant.1
     (sym c.if-is_fork.false ∙ c.is_fork.ensures))
 
 pub returns-then-here-place : goal.returns-then-here-place
 returns-then-here-place c =
-    subst (Goes c.args.rows.now c.args.pairs.now c.args.bytes.now c.args.place (c.loop-round.round + 1)) c.if-here-place.true (next-round c.before.before)
+    subst (Goes c.args.rows.now c.args.pairs.now c.args.bytes.now c.args.place (c.loop-round.round + 1)) c.if-here-place.true
+    (next-round (goal.at.returns-then-here-place c).After-wide-here)
 
 pub loop-round-preserved : goal.loop-round-preserved
-loop-round-preserved c = (next-stands c.before.before, next-round c.before.before)
+loop-round-preserved c = let t = (goal.at.loop-round-preserved c).After-wide-here in (next-stands t, next-round t)
 
 pub returns : goal.returns
 returns c = goes-start _ _ _ c.args.place

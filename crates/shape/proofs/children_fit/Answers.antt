@@ -1,10 +1,7 @@
 use mathlib.Core.Path.{◌∙◌}
-use Prim.Native.Nat.{◌-◌}
 use native.Mathlib.Omega.{arith}
-use borrow.Author.Rules.{rules}
-use borrow.Author.Tests.{not-true, not-false}
 use Rattle.shape.specs.Held.{held}
-use Rattle.shape.proofs.Stepping.{may, Walk, begin, ended, past, barred, next}
+use Rattle.shape.proofs.Stepping.{may, begin, ended, past, barred, next}
 use Rattle.shape.proofs.children_fit.Goals as goal
 
 pub overflow_add-end : goal.overflow_add-end
@@ -22,7 +19,7 @@ pub returns-then-not-may_hold : goal.returns-then-not-may_hold
 returns-then-not-may_hold c =
     barred c.args.rows.now (held c.args.holding) c.args.row.0 c.size.ensures c.loop-c.invariant c.loop-c-test.true
     (may c.args.rows.now (held c.args.holding) c.loop-c.i c.loop-c.c (c.requires.2 c.loop-c.c (omega arith)) c.kind.ensures
-    c.may_hold.ensures ∙ not-true _ c.if-not-may_hold.true)
+    c.may_hold.ensures ∙ c.if-not-may_hold.true)
 
 pub overflow_add-c-in-loop-c : goal.overflow_add-c-in-loop-c
 overflow_add-c-in-loop-c c =
@@ -44,9 +41,9 @@ pub loop-c-preserved : goal.loop-c-preserved
 loop-c-preserved c =
     next c.args.rows.now (held c.args.holding) c.args.row.0 c.size.ensures c.loop-c.invariant c.loop-c-test.true
     (may c.args.rows.now (held c.args.holding) c.loop-c.i c.loop-c.c (c.requires.2 c.loop-c.c (omega arith)) c.kind.ensures
-    c.may_hold.ensures ∙ not-false _ c.if-not-may_hold.false)
+    c.may_hold.ensures ∙ c.if-not-may_hold.false)
     (c.requires.1.some_rows c.loop-c.c (omega arith)) c.size-c.ensures c.if-end-c.false
 
 pub returns : goal.returns
 returns c =
-    ended c.args.rows.now (held c.args.holding) c.args.row.0 c.size.ensures c.loop-c.invariant c.loop-c-test.false c.NOSTEP-at_least_lem.ensures
+    ended c.args.rows.now (held c.args.holding) c.args.row.0 c.size.ensures c.loop-c.invariant c.loop-c-test.false c.at_least.ensures

@@ -1,12 +1,8 @@
 -- Each turn steps over one child, so that what is left to fit is as good as the whole (Stepping). The measure is what is left of the rows.
 -- Assumes nothing.
-use mathlib.Core.Path.{◌∙◌}
 use Prim.Native.Nat.{◌-◌}
-use native.Mathlib.Omega.{arith}
-use borrow.Author.Rules.{rules}
-use borrow.Author.Tests.{not-true, not-false}
 use Rattle.shape.specs.Held.{held}
-use Rattle.shape.proofs.Stepping.{may, Walk, begin, ended, past, barred, next}
+use Rattle.shape.proofs.Stepping.{Walk}
 use Rattle.shape.proofs.children_fit.Given as goal
 
 abbrev pub invariant-loop-c : goal.invariant-loop-c

@@ -1,6 +1,4 @@
-use mathlib.Core.Path.{◌≡◌, sym, ◌∙◌}
-use mathlib.Core.Bool.{false}
-use Prim.Native.Nat.{ℕ, ◌-◌, ◌≤◌, ◌<◌}
+use mathlib.Core.Path.{sym, ◌∙◌}
 use native.Mathlib.Omega.{arith}
 use borrow.Author.Count.{below_more}
 use borrow.Author.Rules.{rules}
@@ -14,12 +12,12 @@ loop-r-init c = (search rules, λ k h. absurd (omega arith))
 
 pub returns-then-not-shape_holds : goal.returns-then-not-shape_holds
 returns-then-not-shape_holds c =
-    let bad = not-false _ (sym c.shape_holds.ensures ∙ not-true _ c.if-not-shape_holds.true) in
+    let bad = not-false _ (sym c.shape_holds.ensures ∙ c.if-not-shape_holds.true) in
     sym (found-lowest (bad_shape c.args.rows.now) _ _ c.loop-r-test.true bad c.loop-r.invariant.1)
 
 pub loop-r-preserved : goal.loop-r-preserved
 loop-r-preserved c =
-    let good = not-true _ (sym c.shape_holds.ensures ∙ not-false _ c.if-not-shape_holds.false) in
+    let good = not-true _ (sym c.shape_holds.ensures ∙ c.if-not-shape_holds.false) in
     (search rules, below_more _ _ c.loop-r.invariant.1 good)
 
 pub returns : goal.returns

@@ -1,14 +1,9 @@
 -- Each row passed keeps its shape; so the first that does not is the lowest, and past the last row there is none. The measure is the rows left.
 -- Assumes nothing.
-use mathlib.Core.Path.{◌≡◌, sym, ◌∙◌}
+use mathlib.Core.Path.{◌≡◌}
 use mathlib.Core.Bool.{false}
 use Prim.Native.Nat.{ℕ, ◌-◌, ◌≤◌, ◌<◌}
-use native.Mathlib.Omega.{arith}
-use borrow.Author.Count.{below_more}
-use borrow.Author.Rules.{rules}
-use borrow.Author.Tests.{not-true, not-false}
 use Rattle.rules.specs.Refusals.{bad_shape}
-use Rattle.rules.proofs.Scan.{found-lowest, none-lowest}
 use Rattle.shape.proofs.first_bad_shape.Given as goal
 
 abbrev pub invariant-loop-r : goal.invariant-loop-r

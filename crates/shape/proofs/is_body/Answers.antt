@@ -4,7 +4,6 @@ use mathlib.Core.Path.{sym, ◌∙◌, ap}
 use Prim.Native.Nat.{ℕ}
 use native.Mathlib.Omega.{arith}
 use lib.Dec.{eqb}
-use borrow.Author.Rules.{rules}
 use Rattle.rules.specs.Rows.{row_count}
 use Rattle.rules.proofs.Children.{other-root, block-root}
 use Rattle.shape.proofs.is_body.Goals as goal

@@ -11,4 +11,4 @@ pub returns-then-kind-eq-CASE : goal.returns-then-kind-eq-CASE
 returns-then-kind-eq-CASE c d a = sym (ap (λ (k : ℕ). not (among (14 ∷ 17 ∷ []) k)) c.if-kind-eq-CASE.true) ∙ kind-statement _ d a
 
 pub returns : goal.returns
-returns-then-kind-eq-CASE c d a = ap not (among-last _ 14 17 c.if-kind-eq-CASE.false) ∙ kind-statement _ d a
+returns c d a = ap not (among-last _ 14 17 c.if-kind-eq-CASE.false) ∙ kind-statement _ d a

@@ -14,4 +14,4 @@ pub returns-then-i-eq1 : goal.returns-then-i-eq1
 returns-then-i-eq1 c d a = second_block _ d a _ c.if-i-eq1.true c.if-kind-eq-IF.false
 
 pub returns : goal.returns
-returns-then-i-eq0 c d a = no_third (class_of _ d) _ c.if-i-eq0.false c.if-i-eq1.false
+returns c d a = no_third (class_of _ d) _ c.if-i-eq0.false c.if-i-eq1.false

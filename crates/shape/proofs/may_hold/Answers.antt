@@ -3,14 +3,12 @@
 use mathlib.Core.Path.{◌≡◌, refl, ◌∙◌}
 use mathlib.Core.Bool.{Bool}
 use Prim.Native.Nat.{ℕ}
-use borrow.Author.Rules.{rules}
 use Rattle.rules.specs.Class.{Class, class_of}
 use Rattle.rules.specs.Refusals.{may_hold}
 use Rattle.rules.proofs.ByKind.{kind-case, kind-comm, one_statement, one_block, no-second-statement, no-second-block}
 use Rattle.shape.specs.Held.{held}
 use Rattle.shape.specs.declared.Holding.{Holding}
 use Rattle.shape.proofs.may_hold.Goals as goal
-use Rattle.shape.proofs.may_hold.Tie as tie
 
 -- what is so of the arm's holding is so of the argument
 told : {h g : Holding} (i : ℕ) (c : Class) {b : Bool} → h ≡ g → b ≡ may_hold (held g) i c → b ≡ may_hold (held h) i c
@@ -42,27 +40,3 @@ returns-in-Cases c d a = told _ (class_of _ d) c.in-Cases.is (kind-case _ d a)
 
 pub returns-in-Comms : goal.returns-in-Comms
 returns-in-Comms c d a = told _ (class_of _ d) c.in-Comms.is (kind-comm _ d a)
-
-pub may_hold_spec : {M : Type 1} → statement M
-may_hold_spec =
-    tie.close
-    (tie.spec
-    enum_told
-    enum-told-2
-    is-statement-requires
-    enum-told-3
-    enum-told-4
-    may-branch-requires
-    enum-told-5
-    is-statement-requires-2
-    enum-told-6
-    enum-told-7
-    returns
-    returns-2
-    returns-3
-    returns-4
-    returns-5
-    returns-6
-    returns-7
-    returns-8
-    returns-9)

@@ -3,11 +3,8 @@
 use mathlib.Core.Path.{◌≡◌, sym, ◌∙◌, ap}
 use mathlib.Core.Bool.{Bool, true, not}
 use mathlib.Core.List.{List}
-use mathlib.Core.Logic.{⊎_elim}
 use Prim.Native.Nat.{ℕ, suc, ◌<◌}
 use native.Mathlib.Omega.{arith}
-use borrow.Author.Rules.{rules}
-use borrow.Author.Tests.{not-true, not-false}
 use Rattle.rules.specs.Rows.{row_count, size, end}
 use Rattle.rules.specs.Class.{class}
 use Rattle.rules.specs.Refusals.{Holding as Holds, holding, children_fit, is_body, bad_shape}
@@ -15,6 +12,7 @@ use Rattle.rules.specs.Body.{Detailed}
 use Rattle.rules.proofs.Children.{shape-fits, shape-no-body}
 use Rattle.shape.specs.DetailedTo.{DetailedTo}
 use Rattle.shape.proofs.shape_holds.Goals as goal
+use Rattle.shape.proofs.shape_holds.Goals.{then-row-eq0+else-not-is_body, else-row-eq0}
 
 -- t is what `children_fit` says with h, what the row holds
 fitted : (w : List ℕ) (r : ℕ) (t : Bool) (h : Holds)
@@ -34,7 +32,7 @@ is_body-requires c =
 
 pub returns-then-not-is_body : goal.returns-then-not-is_body
 returns-then-not-is_body c =
-    let other = sym c.is_body.ensures ∙ not-true _ c.if-not-is_body.true in
+    let other = sym c.is_body.ensures ∙ c.if-not-is_body.true in
     sym (shape-no-body c.args.rows.now c.args.row.0 c.if-row-eq0.true other)
 
 pub holding_at-requires : goal.holding_at-requires
@@ -43,5 +41,5 @@ holding_at-requires c = (c.requires.0, detailed-to c.args.rows.now c.args.row.0 
 pub returns : goal.returns
 returns c =
     let root : c.args.row.0 ≡ 0 → is_body c.args.rows.now ≡ true =
-    ⊎_elim (λ b. λ z. sym b.1.ensures ∙ not-false _ b.2.left) (λ n. λ z. absurd (n.left z)) c.if-row-eq0.branch in
+    elim c.if-row-eq0.branch [ then-row-eq0+else-not-is_body w ↦ λ z. sym w.is_body.ensures ∙ w.if-not-is_body.false | else-row-eq0 w ↦ λ z. absurd (w.if-row-eq0.false z) ] in
     fitted c.args.rows.now c.args.row.0 _ _ root c.holding_at.ensures c.children_fit.ensures

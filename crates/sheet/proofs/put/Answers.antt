@@ -7,9 +7,7 @@ use native.Mathlib.Numerals.{add-one, add-two, add-three}
 use native.Mathlib.Omega.{arith}
 use lib.ListN.{set, length-set}
 use lib.Seq.{sets}
-use borrow.Author.Rules.{rules}
 use Rattle.sheet.proofs.put.Goals as goal
-use Rattle.sheet.proofs.put.Tie as tie
 
 four : (s : List ℕ) (i code other : ℕ) (position name : ℕ) {p n : ℕ} → position ≡ p → name ≡ n
     → set (set (set (set s i code) (i + 1) position) (i + 2) name) (i + 3) other ≡ sets s i (code ∷ p ∷ n ∷ other ∷ [])
@@ -29,24 +27,3 @@ returns c =
     let a = c.args in
     four a.sheet.now (a.at * 4) a.code a.other c.position.result c.name_word.result c.position.ensures
     c.name_word.ensures
-
-pub put_spec : {M : Type 1} → statement M
-put_spec =
-    tie.close
-    (tie.spec
-    mul-i
-    mul-sheet
-    slice-write-sheet
-    position-requires
-    add-sheet
-    mul-sheet-2
-    slice-write-sheet-2
-    name-word-requires
-    add-sheet-2
-    mul-sheet-3
-    slice-write-sheet-3
-    add-sheet-3
-    mul-sheet-4
-    slice-write-sheet-4
-    same_length
-    returns)

@@ -1,3 +1,6 @@
+-- The measure is the length of `names`: each half of two or more is shorter than the whole.
+-- The two halves come back sorted and with their elements, so the whole has its two parts sorted and its elements, and `join` does the rest.
+-- Assumes nothing.
 use lib.ListN.{length}
 use Rattle.sorting.proofs.+sort.Given as goal
 

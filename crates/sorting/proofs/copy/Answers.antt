@@ -1,12 +1,11 @@
 use mathlib.Core.Path.{◌≡◌, refl}
-use Prim.Native.Nat.{ℕ, ◌-◌, ◌<◌, ◌≤◌}
+use Prim.Native.Nat.{◌<◌}
 use native.Mathlib.Omega.{arith}
 use lib.ListN.{length, get_or}
 use lib.Seq.{ext_get_or}
 use borrow.Author.Rules.{rules}
 use Rattle.sorting.proofs.Elements.{stored-all}
 use Rattle.sorting.proofs.copy.Goals as goal
-use Rattle.sorting.proofs.copy.Tie as tie
 
 pub loop-i-init : goal.loop-i-init
 loop-i-init c = (search rules, search rules, λ x l. absurd (omega arith))
@@ -18,20 +17,3 @@ loop-i-preserved c =
 
 pub returns : goal.returns
 returns c = ext_get_or 0 _ _ c.loop-i.invariant.0 (λ x l. c.loop-i.invariant.2 x (omega (arith, l)))
-
-pub copy_spec : {M : Type 1} → statement M
-copy_spec =
-    tie.close
-    (tie.spec
-    goal.the-invariant-loop-i
-    goal.the-decreases-loop-i
-    loop-holds
-    mul-to
-    shared-slice-read-to
-    mul-to-2
-    slice-write-to
-    add-i
-    loop-less
-    loop-again
-    same_length
-    returns)

@@ -1,12 +1,8 @@
 -- `sorting::copy` meets its contract. The loop's invariant: the words up to `i` are those of `from`. The measure is what is left of the length.
 -- Assumes nothing.
-use mathlib.Core.Path.{◌≡◌, refl}
+use mathlib.Core.Path.{◌≡◌}
 use Prim.Native.Nat.{ℕ, ◌-◌, ◌<◌, ◌≤◌}
-use native.Mathlib.Omega.{arith}
 use lib.ListN.{length, get_or}
-use lib.Seq.{ext_get_or}
-use borrow.Author.Rules.{rules}
-use Rattle.sorting.proofs.Elements.{stored-all}
 use Rattle.sorting.proofs.copy.Given as goal
 
 abbrev pub invariant-loop-i : goal.invariant-loop-i

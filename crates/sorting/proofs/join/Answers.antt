@@ -1,6 +1,5 @@
 -- `sorting::join` meets its contract. What `merge` writes is sorted and has the names' elements, and `copy` brings it back.
 -- Assumes nothing.
-use borrow.Author.Rules.{rules}
 use Rattle.sorting.proofs.join.Goals as goal
 
 pub returns : goal.returns

@@ -1,11 +1,9 @@
 -- `sorting::merge` meets its contract. The loop's invariant is `Merging`: what is written is sorted, comes after nothing that is left,
 -- and with what is left has the names' elements. The measure is what is left to write.
 -- Assumes nothing.
-use mathlib.Core.Logic.{⊎_elim}
 use Prim.Native.Nat.{◌-◌}
 use lib.ListN.{length}
-use borrow.Author.Rules.{rules}
-use Rattle.sorting.proofs.Merging.{Merging, merge-start, merge-left, merge-right, merge-end}
+use Rattle.sorting.proofs.Merging.{Merging}
 use Rattle.sorting.proofs.merge.Given as goal
 
 abbrev pub invariant-loop-k : goal.invariant-loop-k

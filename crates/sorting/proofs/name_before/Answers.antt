@@ -1,6 +1,5 @@
 -- `sorting::name_before` meets its contract. The two parts are the names' bytes, and `bytes_before` compares them.
 -- Assumes nothing.
-use borrow.Author.Rules.{rules}
 use Rattle.sorting.proofs.name_before.Goals as goal
 
 pub returns : goal.returns

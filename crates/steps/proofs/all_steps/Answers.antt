@@ -6,7 +6,6 @@ use lib.ListN.{length, length-set}
 use Rattle.rules.specs.Rows.{row_count}
 use Rattle.steps.proofs.AllRows.{StepsTo, steps-start, row_room, end-small, steps-more, steps-end}
 use Rattle.steps.proofs.all_steps.Goals as goal
-use Rattle.steps.proofs.all_steps.Tie as tie
 
 pub bounds-firsts-0 : goal.bounds-firsts-0
 bounds-firsts-0 c = omega (arith, c.requires.rows_in_bounds.0)
@@ -18,15 +17,11 @@ loop-r-init c =
 pub row_steps-first-requires : goal.row_steps-first-requires
 row_steps-first-requires c =
     let v = c.loop-r.invariant in
-    let p = (c.requires.tables, c.requires.rows_in_bounds) in record { tables = (p.0, c.loop-r-test.true); r_in_bounds = row_room p.0.body c.loop-r-test.true v.3 _ (omega (arith, p.1.1, v.2)) }
-
--- the first step of the next row is a small number
-small : (c : tie.After-slice_known-in-loop-r-1 goal.the-invariant-loop-r goal.the-decreases-loop-r) → c.row_steps-first.result ≤ 6000
-small c =
-    end-small c.requires.tables.body c.loop-r-test.true c.loop-r.invariant.3 c.row_steps-first.ensures
+    let p = c.requires in record { tables = (p.tables, c.loop-r-test.true); r_in_bounds = row_room p.tables.body c.loop-r-test.true v.3 _ (omega (arith, p.rows_in_bounds.1, v.2)) }
 
 pub overflow_cast-firsts : goal.overflow_cast-firsts
-overflow_cast-firsts c = omega (arith, small c.before)
+overflow_cast-firsts c =
+    omega (arith, end-small c.requires.tables.body c.loop-r-test.true c.loop-r.invariant.3 c.row_steps-first.ensures)
 
 pub offset_bounds-firsts-r : goal.offset_bounds-firsts-r
 offset_bounds-firsts-r c = let m = c.requires.tables.body.most_rows in search rules
@@ -42,7 +37,7 @@ loop-r-preserved c =
     let v = c.loop-r.invariant in (
       omega (arith, c.loop-r-test.true),
       length-set c.loop-r.firsts _ _ ∙ v.1,
-      c.row_steps-first.auto.1.1.1.1.1.1.1.0 ∙ v.2,
+      c.row_steps-first.auto.steps ∙ v.2,
       steps-more c.requires.tables.body c.loop-r-test.true v.3 c.row_steps-first.ensures,
     )
 
@@ -52,5 +47,5 @@ shape_of-firsts c = c.loop-r.invariant.1 ∙ length-set c.args.firsts.now _ _
 pub returns : goal.returns
 returns c =
     let v = c.loop-r.invariant in
-    let p = (c.requires.tables, c.requires.rows_in_bounds) in
-    steps-end p.0.body v.3 (omega (arith, c.loop-r-test.false)) (omega (arith, p.1.1, v.2))
+    let p = c.requires in
+    steps-end p.tables.body v.3 (omega (arith, c.loop-r-test.false)) (omega (arith, p.rows_in_bounds.1, v.2))

@@ -8,10 +8,10 @@ use borrow.Author.Rules.{rules}
 use Rattle.rules.specs.Rows.{row_count, size, end}
 use Rattle.rules.specs.Walking.{place_of}
 use Rattle.steps.proofs.else_place.Goals as goal
-use Rattle.steps.proofs.else_place.Tie as tie
+use Rattle.steps.proofs.else_place.Goals.{Start, After-size}
 
 -- the body and the else are rows
-rows_fit : (s : tie.Start) → let w = s.args.rows.now in
+rows_fit : (s : Start) → let w = s.args.rows.now in
     (suc s.args.r < row_count w) × (end w (suc s.args.r) < row_count w) × (row_count w ≤ 2000)
 rows_fit s =
     let b = s.requires.0.2 in
@@ -20,20 +20,20 @@ rows_fit s =
     (omega (arith, x.0), omega (arith, x.2), b.most_rows)
 
 pub size-requires : goal.size-requires
-size-requires c = omega (arith, (rows_fit c.before.before).0)
+size-requires c = omega (arith, (rows_fit (goal.at.size-requires c).Start).0)
 
 -- the place written
-word : (c : tie.After-size) → 
+word : (c : After-size) → 
     c.args.r + 3 + c.size.result ≡ suc (suc (end c.args.rows.now (suc c.args.r)))
 word c =
     let z : c.size.result ≡ size c.args.rows.now (suc c.args.r) = c.size.ensures ∙ ap (size c.args.rows.now) (add-one _) in
     omega arith
 
 pub overflow_add-result-2 : goal.overflow_add-result-2
-overflow_add-result-2 c = omega (arith, word c.before, rows_fit c.before.before.before)
+overflow_add-result-2 c = omega (arith, word (goal.at.overflow_add-result-2 c).After-size, rows_fit (goal.at.overflow_add-result-2 c).Start)
 
 pub overflow_cast-result : goal.overflow_cast-result
-overflow_cast-result c = omega (arith, word c.before, rows_fit c.before.before.before)
+overflow_cast-result c = omega (arith, word (goal.at.overflow_cast-result c).After-size, rows_fit (goal.at.overflow_cast-result c).Start)
 
 pub returns : goal.returns
-returns c = ap place_of (word c.before)
+returns c = ap place_of (word (goal.at.returns c).After-size)

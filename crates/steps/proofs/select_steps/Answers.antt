@@ -8,8 +8,8 @@ use Rattle.steps.proofs.select_steps.Goals as goal
 
 pub clause_steps-end-requires : goal.clause_steps-end-requires
 clause_steps-end-requires c =
-    let p = (c.requires.formed, c.requires.r_value) in
-    (p.0.0, p.0.1, omega (arith, p.0.2.2, select-room _ p.0.2.0 p.0.2.1 _ p.1))
+    let p = c.requires in
+    (p.formed.0, p.formed.1, omega (arith, p.formed.2.2, select-room _ p.formed.2.0 p.formed.2.1 _ p.r_value))
 
 pub returns-then-first-end : goal.returns-then-first-end
 returns-then-first-end c = λ p b.
@@ -18,9 +18,9 @@ returns-then-first-end c = λ p b.
 -- room for the stop
 pub bounds-steps-first : goal.bounds-steps-first
 bounds-steps-first c =
-    let p = (c.requires.formed, c.requires.r_value) in
-    stop-room _ p.0.2.0 p.0.2.1 _ c.clause_steps-end.ensures p.1 (omega (arith, c.if-first-end.false))
-    (omega (arith, c.clause_steps-end.kept.1.1.1.0, p.0.2.2))
+    let p = c.requires in
+    stop-room _ p.formed.2.0 p.formed.2.1 _ c.clause_steps-end.ensures p.r_value (omega (arith, c.if-first-end.false))
+    (omega (arith, c.clause_steps-end.auto.steps, p.formed.2.2))
 
 pub returns : goal.returns
 returns c = λ p b.

@@ -8,37 +8,32 @@ use Rattle.rules.specs.Rows.{row_count}
 use Rattle.rules.specs.Body.{Body}
 use Rattle.rules.proofs.Facts.{body}
 use Rattle.steps.proofs.steps_of.Goals as goal
-use Rattle.steps.proofs.steps_of.Tie as tie
-
--- ---- the body, and the room of each table
-is_body_lem : (s : tie.Start) → Body s.args.rows.now s.args.pairs.now s.args.bytes.now
-is_body_lem s = body _ _ _ s.requires.faultless.0.well_formed
-
-parents-room : (c : tie.After-parents_of) → row_count c.args.rows.now ≤ length c.parents_of.new.1.0
-parents-room c = omega (arith, c.parents_of.auto.1.0, (is_body_lem c.before.before.before.before.before.before.before.before).most_rows)
-
-afters_room : (c : tie.After-afters_of) → row_count c.args.rows.now ≤ length c.afters_of.new.1.1.0
-afters_room c = omega (arith, c.afters_of.auto.1.1.0, (is_body_lem c.before.before.before.before.before.before.before.before.before.before.before.before).most_rows)
 
 pub parents_of-requires : goal.parents_of-requires
-parents_of-requires c = let b = is_body_lem c.before.before.before.before.before.before.before.before in ((_, _, b), b.most_rows)
+parents_of-requires c = let b = body _ _ _ c.requires.faultless.0.well_formed in ((_, _, b), b.most_rows)
 
 pub afters_of-requires : goal.afters_of-requires
 afters_of-requires c =
-    let b = is_body_lem c.before.before.before.before.before.before.before.before.before.before.before.before in record { formed = ((_, _, b), c.parents_of.ensures); rows_in_bounds = (parents-room c.before.before.before.before, b.most_rows) }
+    let b = body _ _ _ c.requires.faultless.0.well_formed in
+    record { formed = ((_, _, b), c.parents_of.ensures); rows_in_bounds = (search rules, b.most_rows) }
 
 pub destinations_of-requires : goal.destinations_of-requires
-destinations_of-requires c = record { faultless = c.requires.faultless; parents = (c.parents_of.ensures, c.afters_of.ensures); rows_in_bounds = (parents-room c.before.before.before.before.before.before.before.before.before, afters_room c.before.before.before.before.before, (is_body_lem c.before.before.before.before.before.before.before.before.before.before.before.before.before.before.before.before.before).most_rows) }
+destinations_of-requires c =
+    let b = body _ _ _ c.requires.faultless.0.well_formed in
+    record { faultless = c.requires.faultless; parents = (c.parents_of.ensures, c.afters_of.ensures); rows_in_bounds = (search rules, search rules, b.most_rows) }
 
 pub all_steps-requires : goal.all_steps-requires
 all_steps-requires c =
-    let b = is_body_lem c.before.before.before.before.before.before.before.before.before.before.before.before.before.before.before.before.before.before.before.before.before.before.before in record { tables = record {
+    let b = body _ _ _ c.requires.faultless.0.well_formed in record {
+      tables = record {
         body = b;
-        afters_room = afters_room c.before.before.before.before.before.before.before.before.before.before.before;
+        afters_room = search rules;
         after_rows = c.afters_of.ensures;
-        destinations_room = omega (arith, c.destinations_of.kept.1.1.1.1.1.1.0, b.most_rows);
+        destinations_room = search rules;
         branch_rows = c.destinations_of.ensures;
-      }; rows_in_bounds = (c.requires.rows_in_bounds, ) }
+      };
+      rows_in_bounds = c.requires.rows_in_bounds;
+    }
 
 pub returns : goal.returns
 returns c = c.all_steps.ensures

@@ -8,8 +8,8 @@ use Rattle.steps.proofs.switch_steps.Goals as goal
 
 pub clause_steps-clauses-requires : goal.clause_steps-clauses-requires
 clause_steps-clauses-requires c =
-    let p = (c.requires.formed, c.requires.r_value) in
-    (p.0.0, p.0.1, omega (arith, p.0.2.2, switch-room _ p.0.2.0 p.0.2.1 _ p.1.0))
+    let p = c.requires in
+    (p.formed.0, p.formed.1, omega (arith, p.formed.2.2, switch-room _ p.formed.2.0 p.formed.2.1 _ p.r_value.0))
 
 pub returns-then-clauses : goal.returns-then-clauses
 returns-then-clauses c = λ p b.
@@ -18,15 +18,15 @@ returns-then-clauses c = λ p b.
 -- room for one step more
 pub bounds-steps-end : goal.bounds-steps-end
 bounds-steps-end c =
-    let p = (c.requires.formed, c.requires.r_value) in
-    on_room _ p.0.2.0 p.0.2.1 _ c.clause_steps-clauses.ensures p.1.0 c.if-clauses.false
-    (omega (arith, c.clause_steps-clauses.kept.1.1.1.0, p.0.2.2))
+    let p = c.requires in
+    on_room _ p.formed.2.0 p.formed.2.1 _ c.clause_steps-clauses.ensures p.r_value.0 c.if-clauses.false
+    (omega (arith, c.clause_steps-clauses.auto.steps, p.formed.2.2))
 
 pub offset_bounds-steps-end : goal.offset_bounds-steps-end
-offset_bounds-steps-end c = let g = bounds-steps-end c in let k = c.clause_steps-clauses.auto.1.1.1.0 in search rules
+offset_bounds-steps-end c = let g = bounds-steps-end c in let k = c.clause_steps-clauses.auto.steps in search rules
 
 pub overflow_add-result : goal.overflow_add-result
-overflow_add-result c = let g = bounds-steps-end c in let k = c.clause_steps-clauses.auto.1.1.1.0 in search rules
+overflow_add-result c = let g = bounds-steps-end c in let k = c.clause_steps-clauses.auto.steps in search rules
 
 pub returns : goal.returns
 returns c = λ p b.

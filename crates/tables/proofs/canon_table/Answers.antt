@@ -1,12 +1,10 @@
-use mathlib.Core.Path.{◌≡◌, refl, sym, ◌∙◌}
-use mathlib.Core.Logic.{⊎_elim}
-use Prim.Native.Nat.{◌+◌, ◌-◌}
+use mathlib.Core.Path.{refl, sym, ◌∙◌}
 use native.Mathlib.Omega.{arith}
-use lib.ListN.{length, length-set}
+use lib.ListN.{length-set}
 use borrow.Author.Rules.{rules}
-use Rattle.rules.specs.Names.{count_of_pairs}
-use Rattle.tables.proofs.Filling.{Filling, filling-start, filling-blank, filling-kept, filling-end}
+use Rattle.tables.proofs.Filling.{filling-start, filling-blank, filling-kept, filling-end}
 use Rattle.tables.proofs.canon_table.Goals as goal
+use Rattle.tables.proofs.canon_table.Goals.{then-is_blank, else-is_blank}
 
 pub loop-n-init : goal.loop-n-init
 loop-n-init c = (refl, refl, filling-start _ _ _ _ c.canonical_numbers.ensures (search rules))
@@ -15,14 +13,15 @@ pub loop-n-preserved : goal.loop-n-preserved
 loop-n-preserved c =
     let i = c.loop-n.invariant in
     let h = c.loop-n-test.true in
-    ⊎_elim
-    (λ a. (
-      i.0,
-      rw a.1 (length-set c.loop-n.canonical c.loop-n.n _ ∙ i.1),
-      rw a.1 (filling-blank _ _ _ _ i.2 h (sym c.is_blank.ensures ∙ a.0.taken)),
-    ))
-    (λ a. (i.0, rw a.1 i.1, rw a.1 (filling-kept _ _ _ _ i.2 h (sym c.is_blank.ensures ∙ a.0.left))))
-    c.if-is_blank.branch
+    elim c.if-is_blank.branch [
+      | then-is_blank w ↦ (
+          i.0,
+          rw w.canonical-is (length-set c.loop-n.canonical c.loop-n.n _ ∙ i.1),
+          rw w.canonical-is (filling-blank _ _ _ _ i.2 h (sym c.is_blank.ensures ∙ w.if-is_blank.true)),
+      )
+      | else-is_blank w ↦
+          (i.0, rw w.canonical-is i.1, rw w.canonical-is (filling-kept _ _ _ _ i.2 h (sym c.is_blank.ensures ∙ w.if-is_blank.false)))
+    ]
 
 pub shape_of-canonical : goal.shape_of-canonical
 shape_of-canonical c = omega (arith, simp length-set at c.loop-n.invariant.1)

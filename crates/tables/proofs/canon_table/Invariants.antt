@@ -1,14 +1,11 @@
 -- `tables::canon_table` meets its contract. The loop's invariant is `Filling`: the words below `n` are canonical numbers with `_` taken out, those from `n` on
 -- still the first name numbers. The measure is how many names are left.
 -- Assumes nothing.
-use mathlib.Core.Path.{◌≡◌, refl, sym, ◌∙◌}
-use mathlib.Core.Logic.{⊎_elim}
+use mathlib.Core.Path.{◌≡◌}
 use Prim.Native.Nat.{◌+◌, ◌-◌}
-use native.Mathlib.Omega.{arith}
-use lib.ListN.{length, length-set}
-use borrow.Author.Rules.{rules}
+use lib.ListN.{length}
 use Rattle.rules.specs.Names.{count_of_pairs}
-use Rattle.tables.proofs.Filling.{Filling, filling-start, filling-blank, filling-kept, filling-end}
+use Rattle.tables.proofs.Filling.{Filling}
 use Rattle.tables.proofs.canon_table.Given as goal
 
 abbrev pub invariant-loop-n : goal.invariant-loop-n

@@ -1,15 +1,11 @@
 -- `tables::declared_table` meets its contract. The loop's invariant is `Declaring`: the word at each canonical number is that of its first label among the rows
 -- passed. The measure is how many rows are left.
 -- Assumes nothing.
-use mathlib.Core.Path.{◌≡◌, refl, sym, ◌∙◌}
-use mathlib.Core.Logic.{⊎_elim}
+use mathlib.Core.Path.{◌≡◌}
 use Prim.Native.Nat.{◌-◌}
-use native.Mathlib.Omega.{arith}
-use lib.ListN.{length, length-set}
-use borrow.Author.Rules.{rules}
+use lib.ListN.{length}
 use Rattle.rules.specs.Rows.{row_count}
-use Rattle.tables.proofs.Declaring.{Declaring, Placed, canon-room, placed, declaring-start, declaring-other, declaring-blank, declaring-again}
-use Rattle.tables.proofs.Declaring.{declaring-first, declaring-end}
+use Rattle.tables.proofs.Declaring.{Declaring}
 use Rattle.tables.proofs.declared_table.Given as goal
 
 abbrev pub invariant-loop-r : goal.invariant-loop-r

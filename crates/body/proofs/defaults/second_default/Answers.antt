@@ -3,62 +3,58 @@
 -- Assumes nothing.
 use mathlib.Core.Path.{◌≡◌, ap}
 use mathlib.Core.List.{List}
-use Prim.Native.Nat.{ℕ, suc, ◌+◌, ◌<◌}
+use Prim.Native.Nat.{ℕ, suc, ◌+◌, ◌≤◌, ◌<◌}
 use native.Mathlib.Omega.{arith}
 use native.Mathlib.Numerals.{add-one}
-use borrow.Author.Rules.{rules}
-use Rattle.rules.specs.Rows.{row_count, end}
+use Rattle.rules.specs.Rows.{row_count, size, end}
+use Rattle.rules.specs.Body.{Sized}
 use Rattle.body.specs.Defaults.{NextDefault}
 use Rattle.body.proofs.Seconds.{no_default, only_one, second_is}
 use Rattle.body.proofs.defaults.second_default.Goals as goal
-use Rattle.body.proofs.defaults.second_default.Tie as tie
 
-abbrev rows : tie.Start → List ℕ
-rows s = s.args.rows.now
+-- where the row ends; n is its size as the code read it
+ends : (w : List ℕ) (r n : ℕ) → n ≡ size w r → r + n ≡ end w r
+ends w r n z = ap (λ (n : ℕ). r + n) z
 
--- where the row ends
-ends : (c : tie.After-next_default-first) → c.args.row.0 + c.size.result ≡ end (rows c.before.before.before.before.before) c.args.row.0
-ends c = ap (λ (n : ℕ). c.args.row.0 + n) c.size.ensures
+within : (w : List ℕ) (r n : ℕ) → Sized w → r < row_count w → n ≡ size w r → r + n ≤ row_count w
+within w r n s l z = omega (arith, s.within r l)
 
-first_of : (c : tie.After-next_default-first)
-    → NextDefault (rows c.before.before.before.before.before) (c.args.row.0 + c.size.result) (suc c.args.row.0) c.next_default-first.result
-first_of c = rw (← add-one c.args.row.0) c.next_default-first.ensures
+first_of : {w : List ℕ} {e r f : ℕ} → NextDefault w e (r + 1) f → NextDefault w e (suc r) f
+first_of {r} a = rw (← add-one r) a
 
 -- the first default is a row
-is_row : (c : tie.Else-first-end) → c.next_default-first.result < row_count (rows c.before.before.before.before.before.before)
-is_row c =
-    omega (arith, c.if-first-end.false, c.next_default-first.ensures.high, ends c.before, c.requires.2.within c.args.row.0 c.requires.0)
+is_row : {w : List ℕ} {e b f : ℕ} → NextDefault w e b f → e ≤ row_count w → (f ≡ e → ⊥) → f < row_count w
+is_row a l o = omega (arith, a.high)
 
 pub overflow_add-end : goal.overflow_add-end
-overflow_add-end c = omega (arith, c.size.ensures, c.requires.1, c.requires.2.within c.args.row.0 c.requires.0)
+overflow_add-end c = omega (arith, within _ _ _ c.requires.2 c.requires.0 c.size.ensures)
 
 pub next_default-first-requires : goal.next_default-first-requires
-next_default-first-requires c =
-    (omega (arith, c.size.ensures, c.requires.2.within c.args.row.0 c.requires.0), c.requires.1, c.requires.2, c.requires.3)
+next_default-first-requires c = (within _ _ _ c.requires.2 c.requires.0 c.size.ensures, c.requires.1, c.requires.2, c.requires.3)
 
 pub returns-then-first-end : goal.returns-then-first-end
-returns-then-first-end c = no_default (ends c.before.before) (first_of c.before.before) c.if-first-end.true
+returns-then-first-end c = no_default (ends _ _ _ c.size.ensures) (first_of c.next_default-first.ensures) c.if-first-end.true
 
 pub size-requires-2 : goal.size-requires-2
-size-requires-2 c = is_row c.before
+size-requires-2 c =
+    is_row c.next_default-first.ensures (within _ _ _ c.requires.2 c.requires.0 c.size.ensures) c.if-first-end.false
 
 pub overflow_add-first : goal.overflow_add-first
 overflow_add-first c =
-    omega (arith, c.size-2.ensures, is_row c.before.before, c.requires.1, c.requires.2.within c.next_default-first.result (is_row c.before.before))
+    let l = is_row c.next_default-first.ensures (within _ _ _ c.requires.2 c.requires.0 c.size.ensures) c.if-first-end.false in
+    omega (arith, c.requires.1, within _ _ _ c.requires.2 l c.size-2.ensures)
 
 pub next_default-second-requires : goal.next_default-second-requires
-next_default-second-requires c =
-    (omega (arith, ends c.before.before.before, c.requires.2.within c.args.row.0 c.requires.0), c.requires.1, c.requires.2, c.requires.3)
-
--- the size of the first default, as the code read it, is not 0
-some_rows : (c : tie.After-size-2) → 0 < c.size-2.result
-some_rows c =
-    omega (arith, c.size-2.ensures, c.requires.2.some_rows c.next_default-first.result (is_row c.before))
+next_default-second-requires c = (within _ _ _ c.requires.2 c.requires.0 c.size.ensures, c.requires.1, c.requires.2, c.requires.3)
 
 pub returns-then-second-end : goal.returns-then-second-end
 returns-then-second-end c =
-    only_one (ends c.before.before.before.before.before) (first_of c.before.before.before.before.before) c.if-first-end.false c.size-2.ensures (some_rows c.before.before.before) c.next_default-second.ensures c.if-second-end.true
+    let l = is_row c.next_default-first.ensures (within _ _ _ c.requires.2 c.requires.0 c.size.ensures) c.if-first-end.false in
+    only_one (ends _ _ _ c.size.ensures) (first_of c.next_default-first.ensures) c.if-first-end.false c.size-2.ensures
+    (omega (arith, c.requires.2.some_rows _ l)) c.next_default-second.ensures c.if-second-end.true
 
 pub returns : goal.returns
 returns c =
-    second_is (ends c.before.before.before.before.before) (first_of c.before.before.before.before.before) c.if-first-end.false c.size-2.ensures (some_rows c.before.before.before) c.next_default-second.ensures c.if-second-end.false
+    let l = is_row c.next_default-first.ensures (within _ _ _ c.requires.2 c.requires.0 c.size.ensures) c.if-first-end.false in
+    second_is (ends _ _ _ c.size.ensures) (first_of c.next_default-first.ensures) c.if-first-end.false c.size-2.ensures
+    (omega (arith, c.requires.2.some_rows _ l)) c.next_default-second.ensures c.if-second-end.false

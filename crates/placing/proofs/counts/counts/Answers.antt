@@ -10,4 +10,4 @@ pub returns-then-kind-eq-BRANCH : goal.returns-then-kind-eq-BRANCH
 returns-then-kind-eq-BRANCH c d a = rw (← kind-jump _ d a, eq-eqb _ 11 c.if-kind-eq-BRANCH.true)
 
 pub returns : goal.returns
-returns-then-kind-eq-BRANCH c d a = c.is_breakable.ensures d a ∙ rw (← kind-jump _ d a, ne_eqb _ 11 c.if-kind-eq-BRANCH.false)
+returns c d a = c.is_breakable.ensures d a ∙ rw (← kind-jump _ d a, ne_eqb _ 11 c.if-kind-eq-BRANCH.false)

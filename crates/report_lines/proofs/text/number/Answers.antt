@@ -20,10 +20,10 @@ pub bytes-requires : goal.bytes-requires
 bytes-requires c =
     let d = c.decimal-k.ensures in
     let h : c.args.n < 100000000000000000000 = omega arith in
-    omega (arith, d.0.1, fewest-twenty _ _ h d.1.0)
+    omega (arith, d.in_bounds.1, fewest-twenty _ _ h d.len)
 
 pub returns : goal.returns
 returns c =
     let d = c.decimal-k.ensures in
     let h : c.args.n < 100000000000000000000 = omega arith in
-    put h d.1.0 d.1.1 c.bytes.ensures
+    put h d.len d.digits c.bytes.ensures

@@ -1,18 +1,10 @@
 -- The child's size is one less than the row's, so it ends where the row ends; what `may_hold` says of its kind holds of its class.
 -- Assumes nothing.
 use native.Mathlib.Omega.{arith}
-use borrow.Author.Rules.{rules}
-use Rattle.row_checks.proofs.RightRows.{never}
 use Rattle.row_checks.proofs.PartsFit.{one-child}
 use Rattle.row_checks.proofs.parts.child_fits.Goals as goal
 
-pub returns-then-size-lt2 : goal.returns-then-size-lt2
-returns-then-size-lt2 c = never
-
-pub returns-then-size : goal.returns-then-size
-returns-then-size c = never
-
 pub returns : goal.returns
-returns-then-size-lt2 c y =
+returns c y =
     one-child _ _ c.size-size.ensures _ c.size.ensures (omega arith) (omega arith) c.kind.ensures
     c.may_hold.ensures y

@@ -41,6 +41,6 @@ returns-then-kind-eq-CASE c h d l e a =
     sym (ap (λ (j : ℕ). not (among (14 ∷ 17 ∷ []) j)) c.if-kind-eq-CASE.true) ∙ any-kind k d _ a h l e c.if-items-ne0.false
 
 pub returns : goal.returns
-returns-then-items-ne0 c h d l e a =
+returns c h d l e a =
     let k = c.args.kind in
     ap not (among-last k 14 17 c.if-kind-eq-CASE.false) ∙ any-kind k d _ a h l e c.if-items-ne0.false

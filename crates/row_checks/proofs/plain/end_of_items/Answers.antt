@@ -1,11 +1,5 @@
-use mathlib.Core.Path.{◌≡◌}
-use mathlib.Core.List.{List}
-use Prim.Native.Nat.{ℕ, ◌-◌}
 use native.Mathlib.Omega.{arith}
 use native.Mathlib.Decide.{ℕ_discrete}
-use borrow.Author.Tests.{not-false}
-use Rattle.rules.specs.Names.{count_of_pairs}
-use Rattle.row_checks.specs.Plain.{PlainItems}
 use Rattle.row_checks.proofs.plain.end_of_items.Goals as goal
 
 pub loop-c-init : goal.loop-c-init
@@ -30,7 +24,7 @@ loop-c-preserved c p many =
       low = omega (arith, i.low);
       high = omega arith;
       plain = λ k l m. elim (ℕ_discrete k c.loop-c.c) [
-        | yes e ↦ rw e (c.plain_item.ensures (not-false _ c.if-not-plain_item.false) p many)
+        | yes e ↦ rw e (c.plain_item.ensures c.if-not-plain_item.false p many)
         | no n ↦ i.plain k l (omega arith)
       ];
     }

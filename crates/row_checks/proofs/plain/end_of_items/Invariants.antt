@@ -3,9 +3,6 @@
 use mathlib.Core.Path.{◌≡◌}
 use mathlib.Core.List.{List}
 use Prim.Native.Nat.{ℕ, ◌-◌}
-use native.Mathlib.Omega.{arith}
-use native.Mathlib.Decide.{ℕ_discrete}
-use borrow.Author.Tests.{not-false}
 use Rattle.rules.specs.Names.{count_of_pairs}
 use Rattle.row_checks.specs.Plain.{PlainItems}
 use Rattle.row_checks.proofs.plain.end_of_items.Given as goal

@@ -3,6 +3,7 @@
 use mathlib.Core.Path.{sym, ◌∙◌, ap}
 use mathlib.Core.List.{List, [], ◌∷◌}
 use Prim.Native.Nat.{ℕ}
+use Rattle.std.proofs.Common.{rules}
 use Rattle.rules.proofs.ByKind.{among, none-among, kind-breakable}
 use Rattle.rows.proofs.kinds.is_breakable.Goals as goal
 
@@ -25,4 +26,4 @@ pub returns-in-20 : goal.returns-in-20
 returns-in-20 c d a = sym (ap (among breakable) c.in-20.is) ∙ kind-breakable _ d a
 
 pub returns-in_default : goal.returns-in_default
-returns-in_default c d a = sym (none-among breakable _ c.in_default.rest) ∙ kind-breakable _ d a
+returns-in_default c d a = sym (none-among breakable c.args.kind (search rules)) ∙ kind-breakable _ d a

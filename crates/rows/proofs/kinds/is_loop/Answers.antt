@@ -9,4 +9,4 @@ pub returns-then-kind-eq-FOR : goal.returns-then-kind-eq-FOR
 returns-then-kind-eq-FOR c d a = sym (ap (among (19 ∷ 20 ∷ [])) c.if-kind-eq-FOR.true) ∙ kind-loop _ d a
 
 pub returns : goal.returns
-returns-then-kind-eq-FOR c d a = among-last _ 19 20 c.if-kind-eq-FOR.false ∙ kind-loop _ d a
+returns c d a = among-last _ 19 20 c.if-kind-eq-FOR.false ∙ kind-loop _ d a
