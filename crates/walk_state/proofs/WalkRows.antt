@@ -9,7 +9,7 @@ use native.Mathlib.Omega.{arith}
 use native.Mathlib.Decide.{ℕ_discrete}
 use lib.ListN.{length, get_or, take, drop, set, length-set}
 use lib.Seq.{sets, get_or-set_same, get_or-set_other}
-use Rattle.rules.specs.Rows.{row_count, position, name}
+use Rattle.rules.specs.Rows.{row_count}
 use Rattle.rules.specs.Class.{goto, class}
 use Rattle.rules.specs.Names.{count_of_pairs}
 use Rattle.rules.specs.Scope.{is_block}

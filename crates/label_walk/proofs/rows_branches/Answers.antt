@@ -49,14 +49,10 @@ pub loop-r-preserved : goal.loop-r-preserved
 loop-r-preserved c =
     let i = c.loop-r.invariant in
     let y = c.stmt_branches-step.ensures in
+    let a = c.stmt_branches-step.auto in
     let n = lists-next c.args.rows.now c.loop-r.lists c.args.lists.now c.loop-r.r _ i.1 c.requires.tables.lists_room
-    c.loop-r-test.true c.list_at-here.ensures.0 i.3 in (
-      turn-next i.0 y.0 y.1.0 c.heads-1.given c.goto_or_label-1.given
-          c.latest_decls-1.given c.latest_labels-1.given,
-      n.0,
-      y.1.1,
-      n.1,
-    )
+    c.loop-r-test.true c.list_at-here.ensures.0 i.3 in
+    (turn-next i.0 y.walked y.contexts a.heads a.goto_or_label a.latest_decls a.latest_labels, n.0, y.around, n.1)
 
 pub returns : goal.returns
 returns c = turn_last c.loop-r.invariant.0 c.loop-r-test.false

@@ -1,11 +1,7 @@
-use mathlib.Core.Logic.{⊎_elim}
-use mathlib.Core.List.{List}
-use Prim.Native.Nat.{ℕ}
 use native.Mathlib.Omega.{arith}
-use borrow.Author.Rules.{rules}
-use Rattle.pending.specs.Chain.{Chain}
-use Rattle.pending.proofs.Chained.{Counted, at-counting, count-begins, count-few, count-lower, count_yes, count_no, count-ends}
+use Rattle.pending.proofs.Chained.{at-counting, count-begins, count-few, count-lower, count_yes, count_no, count-ends}
 use Rattle.pending.proofs.count_jumps_over.Goals as goal
+use Rattle.pending.proofs.count_jumps_over.Goals.{then-g-latest, else-g-latest}
 
 pub loop-g-init : goal.loop-g-init
 loop-g-init c = λ all last h. count-begins h
@@ -34,10 +30,10 @@ pub loop-g-preserved : goal.loop-g-preserved
 loop-g-preserved c = λ all last h.
     let k = c.loop-g.invariant all last h in
     let t = c.loop-g-test.true in
-    ⊎_elim
-    (λ v. rw v.1 (count_yes k t v.0.taken c.wide-g.ensures))
-    (λ v. rw v.1 (count_no k t (omega (arith, v.0.left)) c.wide-g.ensures))
-    c.if-g-latest.branch
+    elim c.if-g-latest.branch [
+      | then-g-latest w ↦ rw w.over-is (count_yes k t w.if-g-latest.true c.wide-g.ensures)
+      | else-g-latest w ↦ rw w.over-is (count_no k t (omega (arith, w.if-g-latest.false)) c.wide-g.ensures)
+    ]
 
 pub returns : goal.returns
 returns c = λ all last h. count-ends (c.loop-g.invariant all last h) (omega (arith, c.loop-g-test.false))

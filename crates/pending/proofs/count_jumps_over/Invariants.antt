@@ -1,12 +1,9 @@
 -- The invariant: the links lead on from `g`, and what was counted with what is left of the chain makes the whole. The measure is `g`: each link leads lower.
 -- Assumes nothing.
-use mathlib.Core.Logic.{⊎_elim}
 use mathlib.Core.List.{List}
 use Prim.Native.Nat.{ℕ}
-use native.Mathlib.Omega.{arith}
-use borrow.Author.Rules.{rules}
 use Rattle.pending.specs.Chain.{Chain}
-use Rattle.pending.proofs.Chained.{Counted, at-counting, count-begins, count-few, count-lower, count_yes, count_no, count-ends}
+use Rattle.pending.proofs.Chained.{Counted}
 use Rattle.pending.proofs.count_jumps_over.Given as goal
 
 abbrev pub invariant-loop-g : goal.invariant-loop-g

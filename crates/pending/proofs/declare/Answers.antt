@@ -5,7 +5,6 @@ use mathlib.Core.List.{List, [], ◌∷◌}
 use Prim.Native.Nat.{ℕ, suc, ◌+◌, ◌-◌, ◌*◌}
 use native.Mathlib.Omega.{arith}
 use lib.Seq.{sets}
-use borrow.Author.Rules.{rules}
 use Rattle.rules.specs.Labels.{fault}
 use Rattle.rules.specs.Calls.{fault_words}
 use Rattle.pending.proofs.declare.Goals as goal
@@ -31,7 +30,7 @@ put-requires c =
 
 pub overflow_add-faults : goal.overflow_add-faults
 overflow_add-faults c =
-    omega (arith, c.requires.faults_in_bounds (λ e. c.if-declared-r.false (omega (arith, e))), c.NOSTEP-good)
+    omega (arith, c.requires.faults_in_bounds (λ e. c.if-declared-r.false (omega (arith, e))))
 
 pub put-requires-2 : goal.put-requires-2
 put-requires-2 c =
@@ -40,7 +39,7 @@ put-requires-2 c =
 
 pub overflow_add-result : goal.overflow_add-result
 overflow_add-result c =
-    omega (arith, c.requires.faults_in_bounds (λ e. c.if-declared-r.false (omega (arith, e))), c.NOSTEP-good)
+    omega (arith, c.requires.faults_in_bounds (λ e. c.if-declared-r.false (omega (arith, e))))
 
 pub returns : goal.returns
 returns c =

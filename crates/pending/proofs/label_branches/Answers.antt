@@ -1,7 +1,6 @@
 -- Each call asks and leaves what the laws of LabelStep.antt say: the label's own work, the chain of its number's pending gotos, and the state after them.
 -- Assumes nothing.
 use native.Mathlib.Omega.{arith}
-use borrow.Author.Rules.{rules}
 use Rattle.walk_state.proofs.TableRows.{canon-place, declared-place}
 use Rattle.pending.proofs.LabelStep.{declare-asks, declare-leaves, left-within, head-place, the-chain, counting-asks, end_fits, resolve-asks}
 use Rattle.pending.proofs.LabelStep.{label-walked}
@@ -13,7 +12,7 @@ canon_of-c-requires c =
 
 pub offset_bounds-label_rows-c : goal.offset_bounds-label_rows-c
 offset_bounds-label_rows-c c =
-    omega (arith, declared-place c.requires.tables c.args.row.0 c.canon_of-c.result c.requires.row_bound.0 c.canon_of-c.ensures, c.NOSTEP-good)
+    omega (arith, declared-place c.requires.tables c.args.row.0 c.canon_of-c.result c.requires.row_bound.0 c.canon_of-c.ensures)
 
 pub bounds-label_rows-c : goal.bounds-label_rows-c
 bounds-label_rows-c c =
@@ -24,7 +23,7 @@ declare-more-requires c = let q = declare-asks (c.requires.tables, (c.requires.w
 
 pub offset_bounds-heads-c : goal.offset_bounds-heads-c
 offset_bounds-heads-c c =
-    omega (arith, head-place (c.requires.tables, (c.requires.walking, (c.requires.row_bound, c.requires.latest_value))) c.canon_of-c.ensures, c.NOSTEP-good)
+    omega (arith, head-place (c.requires.tables, (c.requires.walking, (c.requires.row_bound, c.requires.latest_value))) c.canon_of-c.ensures)
 
 pub bounds-heads-c : goal.bounds-heads-c
 bounds-heads-c c =
@@ -40,7 +39,7 @@ overflow_add-end c =
     let chain = the-chain (c.requires.tables, (c.requires.walking, (c.requires.row_bound, c.requires.latest_value))) c.canon_of-c.ensures c.wide-list.ensures c.wide-head.ensures in
     let fits = end_fits (c.requires.tables, (c.requires.walking, (c.requires.row_bound, c.requires.latest_value))) c.canon_of-c.ensures c.wide-list.ensures c.wide-head.ensures own
     (c.count_jumps_over.ensures _ _ chain) in
-    omega (arith, fits, c.declare-more.kept, c.NOSTEP-good)
+    omega (arith, fits, c.declare-more.auto)
 
 pub resolve-left-requires : goal.resolve-left-requires
 resolve-left-requires c =
@@ -55,7 +54,7 @@ overflow_cast-heads c =
 
 pub offset_bounds-heads-c-2 : goal.offset_bounds-heads-c-2
 offset_bounds-heads-c-2 c =
-    omega (arith, head-place (c.requires.tables, (c.requires.walking, (c.requires.row_bound, c.requires.latest_value))) c.canon_of-c.ensures, c.NOSTEP-good)
+    omega (arith, head-place (c.requires.tables, (c.requires.walking, (c.requires.row_bound, c.requires.latest_value))) c.canon_of-c.ensures)
 
 pub bounds-heads-c-2 : goal.bounds-heads-c-2
 bounds-heads-c-2 c =

@@ -1,12 +1,8 @@
-use mathlib.Core.Logic.{⊎_elim}
-use mathlib.Core.List.{List}
-use Prim.Native.Nat.{ℕ, ◌+◌}
 use native.Mathlib.Omega.{arith}
 use native.Mathlib.Numerals.{add-one}
-use borrow.Author.Rules.{rules}
-use Rattle.pending.specs.Chain.{Chain}
-use Rattle.pending.proofs.Chained.{Resolves, at-counting, resolve-begins, resolve-some, resolve-lower, resolve-put, resolve-no, resolve-ends}
+use Rattle.pending.proofs.Chained.{at-counting, resolve-begins, resolve-some, resolve-lower, resolve-put, resolve-no, resolve-ends}
 use Rattle.pending.proofs.resolve.Goals as goal
+use Rattle.pending.proofs.resolve.Goals.{then-g-latest, else-g-latest}
 
 pub loop-g-init : goal.loop-g-init
 loop-g-init c = λ all last h. resolve-begins h
@@ -68,12 +64,12 @@ loop-g-preserved c = λ all last h.
     let q = c.requires in
     let i = c.loop-g.invariant in
     let t = c.loop-g-test.true in
-    ⊎_elim
-    (λ v.
-    let z = resolve-some (at-counting q.counting i) q.from t v.0.taken in
-    rw (v.6, v.7) (resolve-put (i all last h) t v.0.taken z c.wide-g.ensures v.1.ensures v.3.ensures))
-    (λ v. rw (v.1, v.2) (resolve-no (i all last h) t (omega (arith, v.0.left)) c.wide-g.ensures))
-    c.if-g-latest.branch
+    elim c.if-g-latest.branch [
+      | then-g-latest w ↦
+          let z = resolve-some (at-counting q.counting i) q.from t w.if-g-latest.true in
+          rw (w.sheet-is, w.at-is) (resolve-put (i all last h) t w.if-g-latest.true z c.wide-g.ensures w.position-other.ensures w.put.ensures)
+      | else-g-latest w ↦ rw (w.sheet-is, w.at-is) (resolve-no (i all last h) t (omega (arith, w.if-g-latest.false)) c.wide-g.ensures)
+    ]
 
 pub shape_of-sheet : goal.shape_of-sheet
 shape_of-sheet c = (at-counting c.requires.counting c.loop-g.invariant).same-sheet

@@ -1,14 +1,10 @@
 -- The invariant: the links lead on from `g`, and to finish with what is left of the chain gives the sheet and the bindings that the whole chain gives.
 -- The measure is `g`: each link leads lower.
 -- Assumes nothing.
-use mathlib.Core.Logic.{⊎_elim}
 use mathlib.Core.List.{List}
 use Prim.Native.Nat.{ℕ, ◌+◌}
-use native.Mathlib.Omega.{arith}
-use native.Mathlib.Numerals.{add-one}
-use borrow.Author.Rules.{rules}
 use Rattle.pending.specs.Chain.{Chain}
-use Rattle.pending.proofs.Chained.{Resolves, at-counting, resolve-begins, resolve-some, resolve-lower, resolve-put, resolve-no, resolve-ends}
+use Rattle.pending.proofs.Chained.{Resolves}
 use Rattle.pending.proofs.resolve.Given as goal
 
 abbrev pub invariant-loop-g : goal.invariant-loop-g

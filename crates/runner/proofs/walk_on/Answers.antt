@@ -14,7 +14,8 @@ use Rattle.steps.proofs.Reading.{next-first}
 use Rattle.runner.proofs.Turns.{Turn, row_word, row_inside, first-in, turn-start, turn-limit, turn-ended, turn-goes, turn-no-choice, turn-refused}
 use Rattle.runner.proofs.Turns.{chosen-in, turn-chooses, turn-skips, same_turn}
 use Rattle.runner.proofs.walk_on.Goals as goal
-use Rattle.runner.proofs.walk_on.Goals.{After-wide-step, Joined-is_fork, After-wide-place}
+use Rattle.runner.proofs.walk_on.Goals.{After-wide-step, Joined-is_fork}
+use Rattle.runner.proofs.walk_on.Goals.{then-is_fork+else-choices-used+else-wide-step, else-is_fork}
 
 -- ---- the row in hand
 abbrev row : After-wide-step → ℕ
@@ -66,13 +67,13 @@ next-is f r v e = e ∙ ap (λ (n : ℕ). get_or f n 0) (add-one r)
 pub overflow_sub-wide : goal.overflow_sub-wide
 overflow_sub-wide c =
     let t = (goal.at.overflow_sub-wide c).After-wide-step in
-    omega (arith, c.wide-step.ensures, next-is _ _ _ c.wide.ensures, next-first c.requires.1 (row t) (here t).0)
+    omega (arith, c.wide-step.ensures, next-is c.args.firsts.now (c.loop-made.place - 2) c.wide.result c.wide.ensures, next-first c.requires.1 (row t) (here t).0)
 
 pub returns-then-wide-step : goal.returns-then-wide-step
 returns-then-wide-step c =
     turn-refused c.requires.0 _ _ _ _ _ c.loop-made.invariant c.loop-made-test.true (c.loop-made.place - 2) (row_word _ c.if-place-lt2.false)
     c.requires.1 (sym c.if-is_fork.true ∙ c.is_fork.ensures) c.if-choices-used.false
-    (omega (arith, c.wide-step.ensures, next-is _ _ _ c.wide.ensures, c.choice_of-choice.ensures, c.if-wide-step.true))
+    (omega (arith, c.wide-step.ensures, next-is c.args.firsts.now (c.loop-made.place - 2) c.wide.result c.wide.ensures, c.choice_of-choice.ensures, c.if-wide-step.true))
 
 pub overflow_add-step : goal.overflow_add-step
 overflow_add-step c = omega (arith, c.type_inv.firsts (c.loop-made.place - 2 + 1), c.wide.ensures, c.if-wide-step.false)
@@ -85,7 +86,33 @@ Leads c =
     (get_or c.args.steps.now c.if-is_fork.step 0) (suc c.loop-made.made) c.if-is_fork.used
 
 leads : (c : Joined-is_fork) → Leads c
-leads c = ?
+leads c =
+    let r = c.loop-made.place - 2 in
+    let w = row_word _ c.if-place-lt2.false in
+    let first = c.wide-step.ensures in
+    elim c.if-is_fork.branch [
+      | then-is_fork+else-choices-used+else-wide-step x ↦
+          let next = next-is c.args.firsts.now r x.wide.result x.wide.ensures in
+          let choice = x.choice_of-choice.ensures in
+          let fork = sym x.if-is_fork.true ∙ c.is_fork.ensures in
+          let some = x.if-choices-used.false in
+          let below : get_or c.args.choices.now c.loop-made.used 0 < get_or c.args.firsts.now (suc r) 0 - get_or c.args.firsts.now r 0 =
+          omega (arith, x.if-wide-step.false) in
+          let step : c.if-is_fork.step ≡ get_or c.args.firsts.now r 0 + get_or c.args.choices.now c.loop-made.used 0 = omega (arith, x.step-is) in
+          let used : c.if-is_fork.used ≡ suc c.loop-made.used = omega (arith, x.used-is) in
+          rw (step, used) (
+            omega (arith, c.type_inv.firsts (r + 1), x.wide.ensures, x.if-wide-step.false),
+            chosen-in c.requires.0 _ _ _ _ _ c.loop-made.invariant c.loop-made-test.true r w c.requires.1 fork some below,
+            turn-chooses c.requires.0 _ _ _ _ _ c.loop-made.invariant c.loop-made-test.true r w c.requires.1 fork some below,
+          )
+      | else-is_fork x ↦
+          let step : c.if-is_fork.step ≡ get_or c.args.firsts.now r 0 = x.step-is ∙ first in
+          rw (step, x.used-is) (
+            omega (arith, c.type_inv.firsts r),
+            first-in c.requires.0 c.requires.1 r (row_inside _ _ c.if-place-lt2.false c.loop-made.invariant.inside),
+            turn-goes c.requires.0 _ _ _ _ _ c.loop-made.invariant c.loop-made-test.true r w c.requires.1 (sym x.if-is_fork.false ∙ c.is_fork.ensures),
+          )
+    ]
 
 pub offset_bounds-steps-step : goal.offset_bounds-steps-step
 offset_bounds-steps-step c = omega (arith, (leads (goal.at.offset_bounds-steps-step c).Joined-is_fork).0)
@@ -94,13 +121,19 @@ pub bounds-steps-step : goal.bounds-steps-step
 bounds-steps-step c = (leads (goal.at.bounds-steps-step c).Joined-is_fork).1
 
 pub past_rounds-made-requires : goal.past_rounds-made-requires
-past_rounds-made-requires c = ?
+past_rounds-made-requires c =
+    let t = same_turn c.wide-place.result _ (c.loop-made.made + 1) _ _ c.wide-place.ensures (add-one _)
+        (leads (goal.at.past_rounds-made-requires c).Joined-is_fork).2 in
+    record { faultless = c.requires; inside = (t.inside, t.within) }
 
 pub loop-made-smaller : goal.loop-made-smaller
 loop-made-smaller c = omega (arith, c.past_rounds-made.ensures.from, c.past_rounds-made.ensures.upto, c.loop-made-test.true)
 
 pub loop-made-preserved : goal.loop-made-preserved
-loop-made-preserved c = ?
+loop-made-preserved c =
+    turn-skips c.requires.0 _ _ _ _ _
+    (same_turn c.wide-place.result _ (c.loop-made.made + 1) _ _ c.wide-place.ensures (add-one _) (leads (goal.at.loop-made-preserved c).Joined-is_fork).2)
+    _ c.past_rounds-made.ensures
 
 pub returns : goal.returns
 returns c =
