@@ -1,5 +1,5 @@
 //! Links the proved calls: libexports.a of the folder ZESTHULL_LIB, or of target/staticlib at the
-//! repository's root, where `rt staticlib exports` writes it.
+//! repository's root, where `tools/staticlib` writes it.
 
 use std::env;
 use std::path::PathBuf;
@@ -13,7 +13,7 @@ fn main() {
     };
     let archive = folder.join("libexports.a");
     println!("cargo:rerun-if-changed={}", archive.display());
-    assert!(archive.is_file(), "{} is missing: run `rt staticlib exports`", archive.display());
+    assert!(archive.is_file(), "{} is missing: run `tools/staticlib`", archive.display());
     println!("cargo:rustc-link-search=native={}", folder.display());
     println!("cargo:rustc-link-lib=static=exports");
 }

@@ -1,13 +1,9 @@
 -- The invariant: no row below r is bad, and r is at most the count. The measure is what is left of the count.
 -- Assumes nothing.
-use mathlib.Core.Path.{◌≡◌, refl, sym, ◌∙◌}
+use mathlib.Core.Path.{◌≡◌}
 use mathlib.Core.Bool.{false}
 use Prim.Native.Nat.{ℕ, ◌-◌, ◌<◌, ◌≤◌}
-use native.Mathlib.Omega.{arith}
-use borrow.Author.Count.{below_none, below_more}
-use borrow.Author.Tests.{not-true, not-false}
 use Rattle.rules.specs.Refusals.{bad_row}
-use Rattle.rules.proofs.Scan.{found-lowest, none-lowest}
 use Rattle.body.proofs.first_bad_row.Given as goal
 
 abbrev pub invariant-loop-r : goal.invariant-loop-r

@@ -2,15 +2,14 @@
 -- Where the walk found every row right, none of the causes 4, 5, 10 and 6 applies.
 -- Sizes and details have to be right before the children are stepped through; they are, since causes 4 and 5 for sizes come first.
 -- Assumes nothing.
-use mathlib.Core.Path.{◌≡◌, sym, ◌∙◌, ap}
+use mathlib.Core.Path.{◌≡◌, sym, ◌∙◌}
 use mathlib.Core.Bool.{true, false}
 use mathlib.Core.List.{List, [], ◌∷◌}
 use mathlib.Core.Option.{none}
-use Prim.Native.Nat.{ℕ, ◌≤◌, ◌<◌}
+use Prim.Native.Nat.{ℕ, ◌<◌}
 use native.Mathlib.Omega.{arith}
 use lib.Dec.{ltb}
 use lib.ListN.{take}
-use borrow.Author.Rules.{rules}
 use borrow.Author.Tests.{le-ltb}
 use Rattle.rules.specs.Scan.{lowest}
 use Rattle.rules.specs.Rows.{row_count, depth}
@@ -24,7 +23,6 @@ use Rattle.rules.proofs.NoSecond.{none-second}
 use Rattle.rules.proofs.Scan.{lowest-none, none-lowest}
 use Rattle.rules.proofs.Causes.{NoneOf, refused-at, accepted, bad-1, good-1, bad-2, good-2, is-3, is-4, bad-size-5, is-5, is-10, is-6}
 use Rattle.rules.proofs.Facts.{row_words, details, sizes}
-use Rattle.names.specs.Place.{place}
 use Rattle.row_checks.specs.Parts.{item_kind}
 use Rattle.row_checks.specs.Right.{Right}
 use Rattle.body.specs.Defaults.{Inside}

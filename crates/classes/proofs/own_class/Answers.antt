@@ -3,7 +3,6 @@
 use mathlib.Core.Path.{refl, ◌∙◌}
 use mathlib.Core.List.{List, [], ◌∷◌}
 use Prim.Native.Nat.{ℕ, ◌<◌}
-use borrow.Author.Rules.{rules}
 use Rattle.rules.specs.Scan.{lowest}
 use Rattle.rules.specs.Class.{detail_allowed, class_of}
 use Rattle.rules.proofs.Every.{every}

@@ -8,7 +8,7 @@ use Rattle.rules.specs.Class.{Class, is_breakable, is_loop, is_case, detail_allo
 use Rattle.rules.proofs.ByKind.{kind-case}
 use Rattle.rules.proofs.Lists.{by-words, own-breakable, own-loop, own-case}
 use Rattle.parents.proofs.Reading.{parent-word}
-use Rattle.enclosing.proofs.Filled.{Filled, ParentOf, filled-start, filled_more}
+use Rattle.enclosing.proofs.Filled.{ParentOf, filled-start, filled_more}
 use Rattle.enclosing.proofs.enclosing_of.Goals as goal
 use Rattle.enclosing.proofs.enclosing_of.Goals.{In-loop-r}
 

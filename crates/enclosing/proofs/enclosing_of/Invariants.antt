@@ -1,17 +1,9 @@
 -- The invariant: the words below r of the three tables are written. In a turn row r is given what its parent gives it, as Filled.antt says. The measure
 -- is what is left of the count.
 -- Assumes nothing.
-use mathlib.Core.Path.{◌≡◌, refl}
-use mathlib.Core.Bool.{Bool, true}
-use Prim.Native.Nat.{ℕ, ◌-◌, ◌≤◌, ◌<◌}
-use native.Mathlib.Omega.{arith}
-use lib.ListN.{length, get_or, length-set}
-use Rattle.rules.specs.Rows.{row_count}
-use Rattle.rules.specs.Class.{Class, is_breakable, is_loop, is_case, detail_allowed, class_of, base, class}
-use Rattle.rules.proofs.ByKind.{kind-case}
-use Rattle.rules.proofs.Lists.{by-words, own-breakable, own-loop, own-case}
-use Rattle.parents.proofs.Reading.{parent-word}
-use Rattle.enclosing.proofs.Filled.{Filled, ParentOf, filled-start, filled_more}
+use Prim.Native.Nat.{◌-◌, ◌≤◌, ◌<◌}
+use Rattle.rules.specs.Class.{is_breakable, is_loop, is_case}
+use Rattle.enclosing.proofs.Filled.{Filled}
 use Rattle.enclosing.proofs.enclosing_of.Given as goal
 
 abbrev pub invariant-loop-r : goal.invariant-loop-r

@@ -1,7 +1,6 @@
 -- 1 + row p fits a word, since p is at most 2000.
 -- Assumes nothing.
 use native.Mathlib.Omega.{arith}
-use borrow.Author.Rules.{rules}
 use Rattle.enclosing.proofs.from_parent.Goals as goal
 
 pub returns-then-is_one : goal.returns-then-is_one

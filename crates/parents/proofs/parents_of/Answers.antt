@@ -1,10 +1,7 @@
-use mathlib.Core.Path.{◌≡◌, refl}
-use Prim.Native.Nat.{◌-◌, ◌≤◌}
+use mathlib.Core.Path.{refl}
 use native.Mathlib.Omega.{arith}
 use borrow.Author.Rules.{rules}
-use lib.ListN.{length, length-set}
-use Rattle.rules.specs.Rows.{row_count}
-use Rattle.parents.specs.Parents.{ParentsTo}
+use lib.ListN.{length-set}
 use Rattle.parents.proofs.Written.{parents-start, parents-end}
 use Rattle.parents.proofs.parents_of.Goals as goal
 

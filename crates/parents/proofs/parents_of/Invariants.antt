@@ -1,13 +1,10 @@
 -- The loop keeps `ParentsTo`: row 0 and the children of the rows before r have their words. The measure is what is left of the rows.
 -- Assumes nothing.
-use mathlib.Core.Path.{◌≡◌, refl}
+use mathlib.Core.Path.{◌≡◌}
 use Prim.Native.Nat.{◌-◌, ◌≤◌}
-use native.Mathlib.Omega.{arith}
-use borrow.Author.Rules.{rules}
-use lib.ListN.{length, length-set}
+use lib.ListN.{length}
 use Rattle.rules.specs.Rows.{row_count}
 use Rattle.parents.specs.Parents.{ParentsTo}
-use Rattle.parents.proofs.Written.{parents-start, parents-end}
 use Rattle.parents.proofs.parents_of.Given as goal
 
 abbrev pub invariant-loop-r : goal.invariant-loop-r

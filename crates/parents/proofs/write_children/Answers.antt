@@ -1,10 +1,9 @@
 use mathlib.Core.Path.{◌≡◌, refl, ap}
-use Prim.Native.Nat.{ℕ, ◌+◌, ◌-◌, ◌≤◌, ◌<◌}
+use Prim.Native.Nat.{ℕ, ◌+◌, ◌≤◌, ◌<◌}
 use native.Mathlib.Omega.{arith}
-use borrow.Author.Rules.{rules}
 use lib.ListN.{length, length-set}
 use Rattle.rules.specs.Rows.{row_count, size, end}
-use Rattle.parents.proofs.Written.{Written, inside, written_start, written-more, written-end}
+use Rattle.parents.proofs.Written.{inside, written_start, written-more, written-end}
 use Rattle.parents.proofs.write_children.Goals as goal
 use Rattle.parents.proofs.write_children.Goals.{In-loop-c}
 

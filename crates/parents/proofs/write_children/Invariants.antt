@@ -1,12 +1,10 @@
 -- The loop keeps `Written`: the children of row r before c have their words. The measure is what is left of the row.
 -- Assumes nothing.
-use mathlib.Core.Path.{◌≡◌, refl, ap}
-use Prim.Native.Nat.{ℕ, ◌+◌, ◌-◌, ◌≤◌, ◌<◌}
-use native.Mathlib.Omega.{arith}
-use borrow.Author.Rules.{rules}
-use lib.ListN.{length, length-set}
-use Rattle.rules.specs.Rows.{row_count, size, end}
-use Rattle.parents.proofs.Written.{Written, inside, written_start, written-more, written-end}
+use mathlib.Core.Path.{◌≡◌}
+use Prim.Native.Nat.{◌-◌}
+use lib.ListN.{length}
+use Rattle.rules.specs.Rows.{end}
+use Rattle.parents.proofs.Written.{Written}
 use Rattle.parents.proofs.write_children.Given as goal
 
 abbrev pub invariant-loop-c : goal.invariant-loop-c

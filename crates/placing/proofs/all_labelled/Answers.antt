@@ -1,11 +1,8 @@
-use mathlib.Core.Path.{◌≡◌, refl}
-use Prim.Native.Nat.{◌-◌}
+use mathlib.Core.Path.{refl}
 use native.Mathlib.Omega.{arith}
-use borrow.Author.Rules.{rules}
-use Rattle.rules.specs.Rows.{row_count}
 use Rattle.rules.proofs.Test.{clash}
 use Rattle.placing.proofs.Branches.{other-not-bad, named-not-bad}
-use Rattle.placing.proofs.Labelled.{NoneBad, none_more, none_found}
+use Rattle.placing.proofs.Labelled.{none_more, none_found}
 use Rattle.placing.proofs.all_labelled.Goals as goal
 use Rattle.placing.proofs.all_labelled.Goals.{then-kind-eq-BRANCH+else-name_word-eq0, else-kind-eq-BRANCH}
 

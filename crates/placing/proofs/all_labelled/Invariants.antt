@@ -1,14 +1,9 @@
 -- The loop's invariant: none of the rows passed is badly placed. The measure is how many rows are left.
 -- Assumes nothing.
-use mathlib.Core.Path.{◌≡◌, refl}
-use mathlib.Core.Logic.{⊎_elim}
+use mathlib.Core.Path.{◌≡◌}
 use Prim.Native.Nat.{◌-◌}
-use native.Mathlib.Omega.{arith}
-use borrow.Author.Rules.{rules}
 use Rattle.rules.specs.Rows.{row_count}
-use Rattle.rules.proofs.Test.{clash}
-use Rattle.placing.proofs.Branches.{other-not-bad, named-not-bad}
-use Rattle.placing.proofs.Labelled.{NoneBad, none_more, none_found}
+use Rattle.placing.proofs.Labelled.{NoneBad}
 use Rattle.placing.proofs.all_labelled.Given as goal
 
 abbrev pub invariant-loop-r : goal.invariant-loop-r

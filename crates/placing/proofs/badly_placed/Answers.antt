@@ -3,7 +3,6 @@
 use mathlib.Core.Path.{sym, ◌∙◌, ap}
 use mathlib.Core.Bool.{not}
 use Rattle.placing.proofs.Branches.{other-not-bad, named-not-bad, not-well-bad}
-use borrow.Author.Rules.{rules}
 use Rattle.placing.proofs.badly_placed.Goals as goal
 
 pub returns-then-kind-ne-BRANCH : goal.returns-then-kind-ne-BRANCH

@@ -1,13 +1,13 @@
-use mathlib.Core.Path.{◌≡◌, sym, ◌∙◌, ap}
-use Prim.Native.Nat.{ℕ, ◌+◌, ◌-◌}
+use mathlib.Core.Path.{sym, ◌∙◌, ap}
+use Prim.Native.Nat.{ℕ, ◌+◌}
 use native.Mathlib.Omega.{arith}
 use borrow.Author.Count.{below_none, below_more}
-use Rattle.rules.specs.Rows.{row_count, end}
+use Rattle.rules.specs.Rows.{row_count}
 use Rattle.rules.specs.Class.{is_breakable, is_loop}
 use Rattle.rules.specs.Placing.{badly_placed, placing}
 use Rattle.rules.proofs.Scan.{found-lowest, none-lowest}
 use Rattle.rules.proofs.Lists.{own-breakable, own-loop, by-words}
-use Rattle.placing.proofs.Counting.{Known, known_over}
+use Rattle.placing.proofs.Counting.{known_over}
 use Rattle.placing.proofs.Reaching.{reach-none, reach-more}
 use Rattle.placing.proofs.first_badly_placed.Goals as goal
 

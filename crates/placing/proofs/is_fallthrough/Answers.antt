@@ -1,7 +1,6 @@
 -- Each test of the code is one part of `Falls`.
 -- Assumes nothing.
 use mathlib.Core.Path.{◌∙◌}
-use borrow.Author.Rules.{rules}
 use borrow.Author.Tests.{eqb-false}
 use Rattle.placing.proofs.is_fallthrough.Goals as goal
 

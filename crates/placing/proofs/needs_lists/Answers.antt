@@ -1,7 +1,6 @@
 -- Where lists are lent none are needed, and without them the row is no unlabelled fallthrough.
 -- Assumes nothing.
 use native.Mathlib.Omega.{arith}
-use borrow.Author.Rules.{rules}
 use Rattle.rules.proofs.Test.{clash}
 use Rattle.placing.proofs.needs_lists.Goals as goal
 

@@ -1,10 +1,6 @@
-use mathlib.Core.Path.{◌≡◌, sym}
-use mathlib.Core.Bool.{true}
-use Prim.Native.Nat.{◌-◌, ◌≤◌}
+use mathlib.Core.Path.{sym}
 use native.Mathlib.Omega.{arith}
-use Rattle.rules.specs.Rows.{kind, detail}
-use Rattle.rules.specs.Class.{detail_allowed}
-use Rattle.rules.proofs.Around.{AllEmpty, all-empty}
+use Rattle.rules.proofs.Around.{all-empty}
 use Rattle.placing.proofs.Ending.{empty-row, not-only-empty, all_more}
 use Rattle.placing.proofs.only_empty.Goals as goal
 

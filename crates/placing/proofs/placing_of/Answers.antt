@@ -1,6 +1,6 @@
 -- A refusal is handed on; what is not refused is well-formed, so it has the facts of `Body`.
 -- Assumes nothing.
-use mathlib.Core.Path.{◌≡◌, sym, ◌∙◌, ap}
+use mathlib.Core.Path.{◌≡◌, sym, ap}
 use mathlib.Core.List.{List}
 use mathlib.Core.Option.{Option, none, some}
 use Prim.Native.Nat.{ℕ}
@@ -8,9 +8,6 @@ use Rattle.rules.specs.Refusals.{refusal}
 use Rattle.rules.specs.Placing.{placing}
 use Rattle.rules.specs.Calls.{refused, answered, placing_call}
 use Rattle.rules.proofs.Facts.{body}
-use Rattle.body.specs.Given.{given}
-use Rattle.names.specs.Place.{place}
-use borrow.Author.Rules.{rules}
 use Rattle.placing.proofs.placing_of.Goals as goal
 
 module _ (w p b : List ℕ) where

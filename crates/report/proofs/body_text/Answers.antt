@@ -17,12 +17,12 @@ slice_bounds-marked_text-end-in-Marked c = sym (length-take-le _ _ (omega (arith
 pub marked_text-requires : goal.marked_text-requires
 marked_text-requires c =
     let m = c.mark.ensures in
-    let e = sym (ap given c.in-Marked.is) ∙ m.0 in (
-      marked-room _ _ _ _ _ (enough _ 16000 2000 (omega arith) (omega arith) (omega arith)) _ _ _ e _ _ m.1.0 m.1.1,
+    let e = sym (ap given c.in-Marked.is) ∙ m.answer in (
+      marked-room _ _ _ _ _ (enough _ 16000 2000 (omega arith) (omega arith) (omega arith)) _ _ _ e _ _ m.sheet m.bindings,
       (
         omega (arith, c.sheet-2-1.given),
         (
-          omega (arith, length-take (length c.args.rows.now / 5) c.mark.new.1.1.1.1.0),
+          omega (arith, length-take (length c.args.rows.now / 5) c.mark.new.bindings),
           omega arith,
         ),
       ),
@@ -31,13 +31,13 @@ marked_text-requires c =
 pub returns-in-Refused : goal.returns-in-Refused
 returns-in-Refused c =
     let m = c.mark.ensures in
-    let e = sym (ap given c.in-Refused.is) ∙ m.0 in
-    let t = c.refused_text.ensures in record { text = t.0 ∙ ap (λ n. refused_text n c.index_of.result) c.number_of.ensures
+    let e = sym (ap given c.in-Refused.is) ∙ m.answer in
+    let t = c.refused_text.ensures in record { text = t.text ∙ ap (λ n. refused_text n c.index_of.result) c.number_of.ensures
           ∙ ap (refused_text _) c.index_of.ensures
-          ∙ refused-text _ _ _ _ _ (enough _ 16000 2000 (omega arith) (omega arith) (omega arith)) _ _ e; counts = (t.1, ) }
+          ∙ refused-text _ _ _ _ _ (enough _ 16000 2000 (omega arith) (omega arith) (omega arith)) _ _ e; counts = t.counts }
 
 pub returns-in-Marked : goal.returns-in-Marked
 returns-in-Marked c =
     let m = c.mark.ensures in
-    let e = sym (ap given c.in-Marked.is) ∙ m.0 in
-    let t = c.marked_text.ensures in record { text = t.0 ∙ marked-text _ _ _ _ _ (enough _ 16000 2000 (omega arith) (omega arith) (omega arith)) _ _ _ e _ _ m.1.0 m.1.1; counts = (t.1, ) }
+    let e = sym (ap given c.in-Marked.is) ∙ m.answer in
+    let t = c.marked_text.ensures in record { text = t.text ∙ marked-text _ _ _ _ _ (enough _ 16000 2000 (omega arith) (omega arith) (omega arith)) _ _ _ e _ _ m.sheet m.bindings; counts = t.counts }

@@ -32,7 +32,7 @@ words-requires-2 c =
       c.word.ensures,
       c.word-2.ensures,
       c.requires.1.0,
-      length-take-le (c.word-2.result * 2) c.args.pair-words.now (pairs-fit c.requires.0 c.word-2.ensures c.requires.1.1.1.0),
+      length-take-le (c.word-2.result * 2) c.args.pair_words.now (pairs-fit c.requires.0 c.word-2.ensures c.requires.1.1.1.0),
     )
 
 pub slice_bounds-body_text-end-2 : goal.slice_bounds-body_text-end-2
@@ -54,8 +54,8 @@ pub returns : goal.returns
 returns c =
     let r = c.word.ensures in
     let p = c.word-2.ensures in
-    let t = c.body_text.ensures in record { text = t.0
+    let t = c.body_text.ensures in record { text = t.text
           ∙ parts _ _ _ _ _ _ c.requires.1.0 r p
           (words-read _ _ _ _ _ _ (rows_fit c.requires.0 r c.requires.1.1.0) c.words.ensures)
           (words-read _ _ _ _ _ _ (pairs-fit c.requires.0 p c.requires.1.1.1.0) c.words-2.ensures)
-          refl; counts = (t.1, ) }
+          refl; counts = t.counts }

@@ -11,4 +11,4 @@ returns c =
     let b = c.binds_text-binds_end.ensures in
     let p = c.placed_text-placed_end.ensures in
     let v = c.verdict_text.ensures in
-    let w = behind _ _ (behind _ _ (behind _ _ s.0 b.0) p.0) v.0 in record { text = w.text; counts = counts _ _ (omega (arith, s.1, b.1, p.1, v.1, w.same_length)) }
+    let w = behind _ _ (behind _ _ (behind _ _ s.text b.text) p.text) v.text in record { text = w.text; counts = counts _ _ (omega (arith, s.most, b.most, p.most, v.most, w.same_length)) }

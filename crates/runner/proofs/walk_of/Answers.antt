@@ -15,12 +15,12 @@ is_faultless-requires c = (c.requires, omega (arith, (body _ _ _ c.requires).mos
 
 pub returns-then-not-is_faultless : goal.returns-then-not-is_faultless
 returns-then-not-is_faultless c =
-    sym (call-faulty _ _ _ _ _ c.requires (not-false _ (sym c.is_faultless.ensures.judged ∙ not-true _ c.if-not-is_faultless.true)))
+    sym (call-faulty _ _ _ _ _ c.requires (not-false _ (sym c.is_faultless.ensures.judged ∙ c.if-not-is_faultless.true)))
 
 -- no fault is found
 no_fault : (c : Else-not-is_faultless) → Faultless c.args.rows.now c.args.pairs.now c.args.bytes.now
 no_fault c =
-    faultless _ _ _ c.requires (not-true _ (sym c.is_faultless.ensures.judged ∙ not-false _ c.if-not-is_faultless.false))
+    faultless _ _ _ c.requires (not-true _ (sym c.is_faultless.ensures.judged ∙ c.if-not-is_faultless.false))
 
 pub steps_of-requires : goal.steps_of-requires
 steps_of-requires c =

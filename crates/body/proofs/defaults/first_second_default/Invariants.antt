@@ -1,15 +1,8 @@
 -- The invariant: the rows before r were looked at, and `lowest` is the lowest second default found, or the number of rows (`Lowest`). A second default comes
 -- after its parent, so none is left once r has come to `lowest`. The measure is what is left of the rows.
 -- Assumes nothing.
-use mathlib.Core.Path.{refl, ap, subst}
-use mathlib.Core.Logic.{⊎_elim}
-use Prim.Native.Nat.{◌-◌, ◌<◌}
-use native.Mathlib.Omega.{arith}
-use borrow.Author.Rules.{rules}
-use Rattle.rules.specs.Rows.{row_count}
-use Rattle.names.specs.Place.{place}
-use Rattle.body.specs.Defaults.{SecondOf}
-use Rattle.body.proofs.Seconds.{Lowest, lowest-none, lowest-same, lowest-higher, lowest-less, lowest-all, lowest-is}
+use Prim.Native.Nat.{◌-◌}
+use Rattle.body.proofs.Seconds.{Lowest}
 use Rattle.body.proofs.defaults.first_second_default.Given as goal
 
 abbrev pub invariant-loop-r : goal.invariant-loop-r

@@ -1,7 +1,6 @@
 -- A Branch is a row of kind 11; of the other kinds `is_breakable` says what counts.
 -- Assumes nothing.
 use mathlib.Core.Path.{◌∙◌}
-use borrow.Author.Rules.{rules}
 use borrow.Author.Tests.{eq-eqb, ne_eqb}
 use Rattle.rules.proofs.ByKind.{kind-jump}
 use Rattle.placing.proofs.counts.counts.Goals as goal

@@ -1,10 +1,8 @@
 use mathlib.Core.Path.{sym, ◌∙◌}
-use Prim.Native.Nat.{◌-◌}
 use native.Mathlib.Omega.{arith}
 use native.Mathlib.Decide.{ℕ_discrete}
-use borrow.Author.Rules.{rules}
 use Rattle.rules.proofs.Lists.{by-words}
-use Rattle.placing.specs.Counted.{counted, PassedOver}
+use Rattle.placing.specs.Counted.{counted}
 use Rattle.placing.proofs.Counting.{own-counted}
 use Rattle.placing.proofs.counts.next_that_counts.Goals as goal
 

@@ -8,7 +8,6 @@ use Prim.Native.Nat.{ℕ, ◌/◌, ◌%◌, ◌^◌, ◌<◌, ◌≤◌}
 use native.Mathlib.Omega.{arith}
 use lib.Dec.{eqb}
 use lib.ListN.{get_or}
-use borrow.Author.Rules.{rules}
 use Rattle.rules.specs.Scan.{lowest}
 use Rattle.rules.specs.Class.{detail_allowed}
 use Rattle.rules.proofs.Test.{case-of}
