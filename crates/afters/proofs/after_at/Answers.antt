@@ -6,7 +6,6 @@ use mathlib.Core.List.{List}
 use mathlib.Core.Logic.{◌⊎◌, inl, inr}
 use Prim.Native.Nat.{ℕ, ◌+◌, ◌-◌, ◌≤◌, ◌<◌}
 use native.Mathlib.Omega.{arith}
-use borrow.Author.Rules.{rules}
 use Rattle.rules.specs.Rows.{row_count, kind, size, end, Child}
 use Rattle.rules.specs.Class.{detail_allowed, class_of, is_loop, class}
 use Rattle.rules.specs.Scope.{is_list}

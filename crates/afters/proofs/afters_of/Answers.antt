@@ -1,10 +1,7 @@
-use mathlib.Core.Path.{◌≡◌, refl, ◌∙◌}
-use Prim.Native.Nat.{◌-◌, ◌≤◌, ◌<◌}
+use mathlib.Core.Path.{refl, ◌∙◌}
+use Prim.Native.Nat.{◌<◌}
 use native.Mathlib.Omega.{arith}
-use borrow.Author.Rules.{rules}
 use lib.ListN.{length, length-set}
-use Rattle.rules.specs.Rows.{row_count}
-use Rattle.afters.specs.Afters.{AftersBelow}
 use Rattle.afters.proofs.Places.{afters-start, afters-more}
 use Rattle.afters.proofs.afters_of.Goals as goal
 

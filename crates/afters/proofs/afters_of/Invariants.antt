@@ -1,13 +1,10 @@
 -- The loop keeps the words below r; the word of row 0 is written before it. The measure is what is left of the rows.
 -- Assumes nothing.
-use mathlib.Core.Path.{◌≡◌, refl, ◌∙◌}
+use mathlib.Core.Path.{◌≡◌}
 use Prim.Native.Nat.{◌-◌, ◌≤◌, ◌<◌}
-use native.Mathlib.Omega.{arith}
-use borrow.Author.Rules.{rules}
-use lib.ListN.{length, length-set}
+use lib.ListN.{length}
 use Rattle.rules.specs.Rows.{row_count}
 use Rattle.afters.specs.Afters.{AftersBelow}
-use Rattle.afters.proofs.Places.{afters-start, afters-more}
 use Rattle.afters.proofs.afters_of.Given as goal
 
 abbrev pub invariant-loop-r : goal.invariant-loop-r

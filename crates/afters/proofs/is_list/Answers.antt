@@ -2,7 +2,6 @@
 -- Assumes nothing.
 use mathlib.Core.Path.{◌≡◌, sym, ◌∙◌, ap}
 use native.Mathlib.Omega.{arith}
-use borrow.Author.Rules.{rules}
 use Rattle.rules.specs.Class.{Class, class}
 use Rattle.rules.specs.Scope.{is_list}
 use Rattle.shape.specs.Held.{held}

@@ -1,10 +1,10 @@
 -- By its detail the Branch is of one of four classes, and Places.antt says which place that one goes to.
 -- Assumes nothing.
 use mathlib.Core.Path.{◌≡◌, refl, ap}
-use Prim.Native.Nat.{ℕ, ◌+◌, ◌-◌, ◌≤◌}
+use Prim.Native.Nat.{ℕ, ◌+◌, ◌-◌}
 use native.Mathlib.Omega.{arith}
 use lib.ListN.{get_or}
-use Rattle.rules.specs.Rows.{row_count, end}
+use Rattle.rules.specs.Rows.{end}
 use Rattle.destinations.proofs.BranchClass.{is-break, is-continue, is-goto, is-fallthrough}
 use Rattle.destinations.proofs.Places.{BreakPlace, ContinuePlace, GotoPlace, FallthroughPlace, break-place, continue-place, goto-place}
 use Rattle.destinations.proofs.Places.{fallthrough-place, formed, allowed, end_of}

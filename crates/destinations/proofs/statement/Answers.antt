@@ -3,7 +3,6 @@
 use mathlib.Core.Path.{◌≡◌, refl}
 use Prim.Native.Nat.{ℕ, zero, suc, ◌-◌}
 use native.Mathlib.Omega.{arith}
-use borrow.Author.Rules.{rules}
 use Rattle.destinations.proofs.statement.Goals as goal
 
 own-number : (n i : ℕ) → (n ≡ 0 → ⊥) → n ≡ elim n [ zero ↦ i - 1 | suc t ↦ suc t ]

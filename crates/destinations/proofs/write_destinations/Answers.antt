@@ -1,13 +1,11 @@
 use mathlib.Core.Path.{◌≡◌, refl, sym, ◌∙◌, ap}
 use mathlib.Core.Bool.{false}
-use mathlib.Core.Logic.{⊎_elim}
-use Prim.Native.Nat.{◌-◌, ◌≤◌, ◌<◌}
+use Prim.Native.Nat.{◌<◌}
 use native.Mathlib.Omega.{arith}
 use lib.ListN.{length, length-set}
 use borrow.Author.Tests.{ne_eqb}
 use Rattle.rules.specs.Class.{is_branch, class}
 use Rattle.rules.proofs.Lists.{branch-kind}
-use Rattle.destinations.specs.Destinations.{DestinationsBelow}
 use Rattle.destinations.proofs.Places.{formed}
 use Rattle.destinations.proofs.Written.{branch-more, other-more}
 use Rattle.destinations.proofs.write_destinations.Goals as goal

@@ -10,21 +10,21 @@ use Rattle.input.proofs.Lengths.{not_last, left_to_count, less-left}
 use Rattle.filter.proofs.whole_length.Goals as goal
 
 pub loop-input-init : goal.loop-input-init
-loop-input-init c = (c.large_buffer-piece.ensures, c.requires)
+loop-input-init g c = (search rules, c.requires)
 
 pub read_on-input-requires : goal.read_on-input-requires
-read_on-input-requires c = (
+read_on-input-requires g c = (
   c.loop-input.invariant.1 (not-true _ c.loop-input-test.true),
   omega (arith, c.loop-input.invariant.0, c.read_full-got.ensures.0, c.read_full-got.auto.1.0),
 )
 
 pub loop-input-smaller : goal.loop-input-smaller
-loop-input-smaller c =
+loop-input-smaller g c =
     let going = not-true _ c.loop-input-test.true in
     less-left _ _ _ 65536 _ _ going (c.loop-input.invariant.1 going) (omega arith) c.read_on-input.ensures.length c.read_on-input.ensures.ended
 
 pub loop-input-preserved : goal.loop-input-preserved
-loop-input-preserved c = (
+loop-input-preserved g c = (
   omega (arith, c.loop-input.invariant.0, c.read_full-got.auto.1.0),
   λ e. rw c.read_on-input.ensures.length (not_last _ _ (sym c.read_on-input.ensures.ended ∙ e)),
 )

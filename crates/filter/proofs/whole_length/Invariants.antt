@@ -12,7 +12,7 @@ use Rattle.input.proofs.Lengths.{not_last, left_to_count, less-left}
 use Rattle.filter.proofs.whole_length.Given as goal
 
 abbrev pub invariant-loop-input : goal.invariant-loop-input
-invariant-loop-input l = (65536 ≡ length_of l.piece) × (l.input.ended ≡ false → l.input.length < uncounted)
+invariant-loop-input g l = (65536 ≡ length_of l.piece) × (l.input.ended ≡ false → l.input.length < uncounted)
 
 abbrev pub decreases-loop-input : goal.decreases-loop-input
-decreases-loop-input l = left_to_count l.input.length l.input.ended
+decreases-loop-input g l = left_to_count l.input.length l.input.ended

@@ -5,24 +5,12 @@ use Rattle.body.specs.Given.{given}
 use Rattle.marking.proofs.Together.{refusal-marked}
 use borrow.Author.Rules.{rules}
 use Rattle.marking.proofs.mark.Goals as goal
-use Rattle.marking.proofs.mark.Tie as tie
 
 pub marks_of-requires : goal.marks_of-requires
 marks_of-requires c =
     sym c.refusal_of.ensures ∙ ap given c.in-WellFormed.is
 
 pub returns-in-Refused : goal.returns-in-Refused
-returns-in-Refused c = let q = refusal-marked _ _ _ _ _ _ (sym (ap given c.in-Refused.is) ∙ c.refusal_of.ensures) in record { answer = q.0; sheet = q.1.0; bindings = q.1.1 }
-
-pub mark_spec : {M : Type 1} → statement M
-mark_spec =
-    tie.close
-    (tie.spec
-    refusal-of-requires
-    enum-known-r
-    enum_told
-    marks-of-requires
-    returns
-    same_length
-    same-length-2
-    returns-2)
+returns-in-Refused c =
+    let q = refusal-marked _ _ _ _ _ _ (sym (ap given c.in-Refused.is) ∙ c.refusal_of.ensures) in
+    record { answer = q.0; sheet = q.1.0; bindings = q.1.1 }

@@ -18,9 +18,14 @@ is_terminating-terminating-requires c =
 
 pub returns-in-Refused : goal.returns-in-Refused
 returns-in-Refused c =
-    let e = c.labels_of.ensures in let q = e.1 in record { answer = marks-refused _ _ _ _ _ (sym (ap given c.in-Refused.is) ∙ e.0); sheet = q.0; bindings = q.1 }
+    let e = c.labels_of.ensures in
+    record { answer = marks-refused _ _ _ _ _ (sym (ap given c.in-Refused.is) ∙ e.answer); sheet = e.sheet; bindings = e.bindings }
 
 pub returns-in-Faults : goal.returns-in-Faults
 returns-in-Faults c =
-    let e = c.labels_of.ensures in record { answer = marks-answered _ _ _ _ _ c.requires
-          (sym (ap given c.in-Faults.is) ∙ e.0) c.placed-placed.ensures c.is_terminating-terminating.ensures; sheet = e.1; bindings =  }
+    let e = c.labels_of.ensures in
+    record {
+      answer = marks-answered _ _ _ _ _ c.requires (sym (ap given c.in-Faults.is) ∙ e.answer) c.placed-placed.ensures c.is_terminating-terminating.ensures;
+      sheet = e.sheet;
+      bindings = e.bindings;
+    }

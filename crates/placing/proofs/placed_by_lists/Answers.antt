@@ -1,4 +1,4 @@
--- The words that `lists_of` leaves name each row's list, so that the search rules no more and its row is that of the definition.
+-- The words that `lists_of` leaves name each row's list, so that the search needs no more and its row is that of the definition.
 -- Assumes nothing.
 use native.Mathlib.Omega.{arith}
 use borrow.Author.Rules.{rules}

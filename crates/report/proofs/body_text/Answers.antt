@@ -12,7 +12,7 @@ use borrow.Author.Rules.{rules}
 use Rattle.report.proofs.body_text.Goals as goal
 
 pub slice_bounds-marked_text-end-in-Marked : goal.slice_bounds-marked_text-end-in-Marked
-slice_bounds-marked_text-end-in-Marked c = sym (length-take-le _ _ (omega (arith, c.bindings-2-1.given)))
+slice_bounds-marked_text-end-in-Marked c = sym (length-take-le _ _ (omega arith))
 
 pub marked_text-requires : goal.marked_text-requires
 marked_text-requires c =
@@ -20,7 +20,7 @@ marked_text-requires c =
     let e = sym (ap given c.in-Marked.is) ∙ m.answer in (
       marked-room _ _ _ _ _ (enough _ 16000 2000 (omega arith) (omega arith) (omega arith)) _ _ _ e _ _ m.sheet m.bindings,
       (
-        omega (arith, c.sheet-2-1.given),
+        omega arith,
         (
           omega (arith, length-take (length c.args.rows.now / 5) c.mark.new.bindings),
           omega arith,

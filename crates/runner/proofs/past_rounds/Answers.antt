@@ -4,7 +4,6 @@ use Prim.Native.Nat.{◌-◌}
 use native.Mathlib.Omega.{arith}
 use native.Mathlib.Nat.{mod-le}
 use Rattle.runner.proofs.Rounding.{skipped}
-use borrow.Author.Rules.{rules}
 use Rattle.runner.proofs.past_rounds.Goals as goal
 
 pub overflow_sub-result-2 : goal.overflow_sub-result-2

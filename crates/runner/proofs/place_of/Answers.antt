@@ -4,7 +4,6 @@ use mathlib.Core.Path.{◌≡◌, sym, ap}
 use Prim.Native.Nat.{suc, ◌-◌}
 use native.Mathlib.Omega.{arith}
 use Rattle.rules.specs.Walking.{place_of}
-use borrow.Author.Rules.{rules}
 use Rattle.runner.proofs.place_of.Goals as goal
 
 pub returns : goal.returns

@@ -4,7 +4,6 @@ use mathlib.Core.Path.{ap}
 use Rattle.rules.specs.Runner.{State}
 use Rattle.rules.specs.Calls.{answered}
 use Rattle.rules.specs.Walking.{walked}
-use borrow.Author.Rules.{rules}
 use Rattle.runner.proofs.reached.Goals as goal
 
 pub returns : goal.returns

@@ -1,10 +1,8 @@
 use mathlib.Core.Path.{◌≡◌, sym, ◌∙◌, ap, subst}
-use Prim.Native.Nat.{ℕ, ◌+◌, ◌-◌, ◌≤◌}
+use Prim.Native.Nat.{ℕ, ◌+◌, ◌-◌}
 use native.Mathlib.Omega.{arith}
 use lib.ListN.{get_or}
-use borrow.Author.Rules.{rules}
 use Rattle.rules.specs.Runner.{at}
-use Rattle.rules.specs.Body.{Body}
 use Rattle.rules.specs.Walking.{place_of, Inside}
 use Rattle.rules.proofs.Facts as facts
 use Rattle.runner.specs.Rounds.{Goes}

@@ -3,7 +3,6 @@
 use mathlib.Core.Path.{sym, ◌∙◌, ap}
 use Rattle.rules.proofs.WalkSteps.{call-refused}
 use Rattle.body.specs.Given as body
-use borrow.Author.Rules.{rules}
 use Rattle.runner.proofs.walk.Goals as goal
 
 pub walk_of-requires : goal.walk_of-requires

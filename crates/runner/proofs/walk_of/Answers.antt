@@ -6,7 +6,6 @@ use borrow.Author.Tests.{not-true, not-false}
 use Rattle.rules.specs.Walking.{Faultless}
 use Rattle.rules.proofs.Facts.{body}
 use Rattle.rules.proofs.WalkSteps.{faultless, call-faulty, call-walks}
-use borrow.Author.Rules.{rules}
 use Rattle.runner.proofs.walk_of.Goals as goal
 use Rattle.runner.proofs.walk_of.Goals.{Else-not-is_faultless}
 

@@ -1,19 +1,8 @@
 use mathlib.Core.Path.{◌∙◌}
 use native.Mathlib.Omega.{arith}
 use Rattle.shape.specs.Held.{held}
-use Rattle.shape.proofs.Stepping.{may, begin, ended, past, barred, next}
+use Rattle.shape.proofs.Stepping.{may, ended, past, barred, next}
 use Rattle.shape.proofs.children_fit.Goals as goal
-
-pub overflow_add-end : goal.overflow_add-end
-overflow_add-end c = omega (arith, c.requires.1.within c.args.row.0 c.requires.0)
-
-pub overflow_add-c : goal.overflow_add-c
-overflow_add-c c = omega (arith, c.requires.0)
-
-pub loop-c-init : goal.loop-c-init
-loop-c-init c =
-    let r = c.args.row.0 in
-    begin c.args.rows.now (held c.args.holding) r c.size.ensures (c.requires.1.some_rows r c.requires.0) (c.requires.1.within r c.requires.0)
 
 pub returns-then-not-may_hold : goal.returns-then-not-may_hold
 returns-then-not-may_hold c =
@@ -21,21 +10,10 @@ returns-then-not-may_hold c =
     (may c.args.rows.now (held c.args.holding) c.loop-c.i c.loop-c.c (c.requires.2 c.loop-c.c (omega arith)) c.kind.ensures
     c.may_hold.ensures ∙ c.if-not-may_hold.true)
 
-pub overflow_add-c-in-loop-c : goal.overflow_add-c-in-loop-c
-overflow_add-c-in-loop-c c =
-    omega (arith, c.requires.1.within c.loop-c.c (omega arith))
-
 pub returns-then-end-c : goal.returns-then-end-c
 returns-then-end-c c =
     past c.args.rows.now (held c.args.holding) c.args.row.0 c.size.ensures c.loop-c.invariant c.loop-c-test.true
     c.size-c.ensures c.if-end-c.true
-
-pub overflow_add-i : goal.overflow_add-i
-overflow_add-i c = omega arith
-
-pub loop-c-smaller : goal.loop-c-smaller
-loop-c-smaller c =
-    omega (arith, c.requires.1.some_rows c.loop-c.c (omega arith))
 
 pub loop-c-preserved : goal.loop-c-preserved
 loop-c-preserved c =

@@ -1,10 +1,8 @@
-use mathlib.Core.Path.{◌≡◌, refl, ◌∙◌}
-use Prim.Native.Nat.{◌-◌, ◌≤◌}
+use mathlib.Core.Path.{refl, ◌∙◌}
 use native.Mathlib.Omega.{arith}
 use borrow.Author.Rules.{rules}
-use lib.ListN.{length, length-set}
-use Rattle.rules.specs.Rows.{row_count}
-use Rattle.steps.proofs.AllRows.{StepsTo, steps-start, row_room, end-small, steps-more, steps-end}
+use lib.ListN.{length-set}
+use Rattle.steps.proofs.AllRows.{steps-start, row_room, end-small, steps-more, steps-end}
 use Rattle.steps.proofs.all_steps.Goals as goal
 
 pub bounds-firsts-0 : goal.bounds-firsts-0

@@ -1,12 +1,10 @@
 -- The loop keeps `StepsTo`: the rows before r have their steps. What is left of the count falls.
 -- Assumes nothing.
-use mathlib.Core.Path.{◌≡◌, refl, ◌∙◌}
+use mathlib.Core.Path.{◌≡◌}
 use Prim.Native.Nat.{◌-◌, ◌≤◌}
-use native.Mathlib.Omega.{arith}
-use borrow.Author.Rules.{rules}
-use lib.ListN.{length, length-set}
+use lib.ListN.{length}
 use Rattle.rules.specs.Rows.{row_count}
-use Rattle.steps.proofs.AllRows.{StepsTo, steps-start, row_room, end-small, steps-more, steps-end}
+use Rattle.steps.proofs.AllRows.{StepsTo}
 use Rattle.steps.proofs.all_steps.Given as goal
 
 abbrev pub invariant-loop-r : goal.invariant-loop-r

@@ -1,12 +1,12 @@
-use mathlib.Core.Path.{◌≡◌, refl, ◌∙◌}
-use mathlib.Core.Logic.{⊎_elim, inl, inr}
-use Prim.Native.Nat.{◌-◌, ◌≤◌, ◌<◌}
+use mathlib.Core.Path.{refl, ◌∙◌}
+use mathlib.Core.Logic.{inl, inr}
+use Prim.Native.Nat.{◌≤◌, ◌<◌}
 use native.Mathlib.Omega.{arith}
 use borrow.Author.Rules.{rules}
 use lib.ListN.{length, length-set}
 use Rattle.rules.specs.Rows.{row_count, size, end}
 use Rattle.rules.specs.Class.{class}
-use Rattle.steps.proofs.Turns.{ClausesTo, clauses-start, clauses-end, clause-room, clauses-more, default-found}
+use Rattle.steps.proofs.Turns.{clauses-start, clauses-end, clause-room, clauses-more, default-found}
 use Rattle.steps.proofs.clause_steps.Goals as goal
 use Rattle.steps.proofs.clause_steps.Goals.{In-loop-c, then-class-eq-DEFAULT_CASE, else-class-eq-DEFAULT_CASE, then-class-eq-DEFAULT_COMM, else-class-eq-DEFAULT_COMM}
 

@@ -1,14 +1,9 @@
 -- The loop keeps `ClausesTo`: the clauses before c are written, those from c on are left. What is left of the row falls.
 -- Assumes nothing.
-use mathlib.Core.Path.{◌≡◌, refl, ◌∙◌}
-use mathlib.Core.Logic.{⊎_elim, inl, inr}
-use Prim.Native.Nat.{◌-◌, ◌≤◌, ◌<◌}
-use native.Mathlib.Omega.{arith}
-use borrow.Author.Rules.{rules}
-use lib.ListN.{length, length-set}
-use Rattle.rules.specs.Rows.{row_count, size, end}
-use Rattle.rules.specs.Class.{class}
-use Rattle.steps.proofs.Turns.{ClausesTo, clauses-start, clauses-end, clause-room, clauses-more, default-found}
+use mathlib.Core.Path.{◌≡◌}
+use Prim.Native.Nat.{◌-◌}
+use lib.ListN.{length}
+use Rattle.steps.proofs.Turns.{ClausesTo}
 use Rattle.steps.proofs.clause_steps.Given as goal
 
 abbrev pub invariant-loop-c : goal.invariant-loop-c

@@ -4,7 +4,6 @@ use mathlib.Core.Path.{◌≡◌, ◌∙◌, ap}
 use Prim.Native.Nat.{suc, ◌+◌, ◌≤◌, ◌<◌}
 use native.Mathlib.Omega.{arith}
 use native.Mathlib.Numerals.{add-one}
-use borrow.Author.Rules.{rules}
 use Rattle.rules.specs.Rows.{row_count, size, end}
 use Rattle.rules.specs.Walking.{place_of}
 use Rattle.steps.proofs.else_place.Goals as goal

@@ -1,7 +1,6 @@
 -- The clauses, or one step to a stop: the law of Select, with what `clause_steps` wrote.
 -- Assumes nothing.
 use native.Mathlib.Omega.{arith}
-use borrow.Author.Rules.{rules}
 use Rattle.steps.proofs.Choices.{select-room}
 use Rattle.steps.proofs.Leads.{select-whole, select-stops, stop-room}
 use Rattle.steps.proofs.select_steps.Goals as goal

@@ -1,11 +1,6 @@
 -- What each pass leaves is what the next one is lent; the local tables have 2000 words, and a body has 2000 rows at most.
 -- Assumes nothing.
-use Prim.Native.Nat.{◌≤◌}
-use native.Mathlib.Omega.{arith}
 use borrow.Author.Rules.{rules}
-use lib.ListN.{length}
-use Rattle.rules.specs.Rows.{row_count}
-use Rattle.rules.specs.Body.{Body}
 use Rattle.rules.proofs.Facts.{body}
 use Rattle.steps.proofs.steps_of.Goals as goal
 

@@ -1,7 +1,6 @@
 -- Two stores, one after the other: the law is `two-written`.
 -- Assumes nothing.
 use native.Mathlib.Omega.{arith}
-use borrow.Author.Rules.{rules}
 use lib.ListN.{length-set}
 use Rattle.steps.proofs.Leads.{two-written}
 use Rattle.steps.proofs.two_steps.Goals as goal

@@ -74,13 +74,12 @@ bounds-ends-end-in-loop-r c = omega (arith, within _ _ _ c.requires.0 c.loop-r-t
 
 pub loop-r-preserved : goal.loop-r-preserved
 loop-r-preserved c =
-    let h : c.loop-r.r < length c.loop-r.ends = omega arith in
-    (
+    let h : c.loop-r.r < length c.loop-r.ends = omega arith in (
       omega arith,
       simp length-set c.loop-r.invariant.1,
       counted-more _ _ _ _ c.loop-r.invariant.2 h _ c.wide-ended.ensures _ (ap (λ n. c.loop-r.r + n) c.size.ensures)
-      (some_rows _ _ _ c.requires.0 c.loop-r-test.true c.size.ensures)
-      (omega (arith, within _ _ _ c.requires.0 c.loop-r-test.true c.size.ensures)),
+          (some_rows _ _ _ c.requires.0 c.loop-r-test.true c.size.ensures)
+          (omega (arith, within _ _ _ c.requires.0 c.loop-r-test.true c.size.ensures)),
       below_more _ _ c.loop-r.invariant.3 (not-deep _ _ _ _ _ c.loop-r.invariant.2 h c.wide-ended.ensures c.if-r-ended-gt100.false),
     )
 
