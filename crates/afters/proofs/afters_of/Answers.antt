@@ -15,7 +15,8 @@ loop-r-init c =
 
 pub after_at-place-requires : goal.after_at-place-requires
 after_at-place-requires c =
-    let v = c.loop-r.invariant in record { formed = (c.requires.formed.0, c.requires.formed.1, v.3); r_nonzero = (v.0, c.loop-r-test.true, c.requires.rows_in_bounds.0, v.1) }
+    let v = c.loop-r.invariant in
+    record { formed = (c.requires.formed.0, c.requires.formed.1, v.3); r_nonzero = (v.0, c.loop-r-test.true, c.requires.rows_in_bounds.0, v.1) }
 
 pub overflow_cast-afters : goal.overflow_cast-afters
 overflow_cast-afters c = omega (arith, c.after_at-place.ensures.1)

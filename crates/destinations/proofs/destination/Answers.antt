@@ -1,16 +1,21 @@
 -- By its detail the Branch is of one of four classes, and Places.antt says which place that one goes to.
 -- Assumes nothing.
 use mathlib.Core.Path.{◌≡◌, refl, ap}
-use Prim.Native.Nat.{ℕ, ◌+◌, ◌-◌}
+use mathlib.Core.List.{List}
+use Prim.Native.Nat.{ℕ, ◌+◌, ◌-◌, ◌≤◌}
 use native.Mathlib.Omega.{arith}
 use lib.ListN.{get_or}
-use Rattle.rules.specs.Rows.{end}
+use Rattle.rules.specs.Rows.{row_count, end}
+use Rattle.rules.specs.Walking.{Faultless}
 use Rattle.destinations.proofs.BranchClass.{is-break, is-continue, is-goto, is-fallthrough}
 use Rattle.destinations.proofs.Places.{BreakPlace, ContinuePlace, GotoPlace, FallthroughPlace, break-place, continue-place, goto-place}
 use Rattle.destinations.proofs.Places.{fallthrough-place, formed, allowed, end_of}
 use borrow.Author.Rules.{rules}
 use Rattle.destinations.proofs.destination.Goals as goal
 use Rattle.destinations.proofs.destination.Goals.{In-0, In-1, In-2, In_default, After-size}
+
+few : {w p b : List ℕ} → Faultless w p b → row_count w ≤ 2000
+few f = (formed f).most_rows
 
 -- ---- what the tables say at each detail
 on-break : (c : In-0) → BreakPlace c.requires.tables c.args.r c.requires.r_bound.0
@@ -43,7 +48,7 @@ pub statement-left-requires : goal.statement-left-requires
 statement-left-requires c = (on-break (goal.at.statement-left-requires c).In-0).0
 
 pub offset_bounds-afters-left : goal.offset_bounds-afters-left
-offset_bounds-afters-left c = omega (arith, c.statement-left.ensures, (on-break (goal.at.offset_bounds-afters-left c).In-0).1, (formed c.requires.tables.faultless).most_rows)
+offset_bounds-afters-left c = omega (arith, c.statement-left.ensures, (on-break (goal.at.offset_bounds-afters-left c).In-0).1, few c.requires.tables.faultless)
 
 pub bounds-afters-left : goal.bounds-afters-left
 bounds-afters-left c =
@@ -53,13 +58,13 @@ pub statement-requires : goal.statement-requires
 statement-requires c = (on-continue (goal.at.statement-requires c).In-1).0
 
 pub overflow_add-result : goal.overflow_add-result
-overflow_add-result c = omega (arith, c.statement.ensures, (on-continue (goal.at.overflow_add-result c).In-1).1, (formed c.requires.tables.faultless).most_rows)
+overflow_add-result c = omega (arith, c.statement.ensures, (on-continue (goal.at.overflow_add-result c).In-1).1, few c.requires.tables.faultless)
 
 pub overflow_cast-result : goal.overflow_cast-result
-overflow_cast-result c = omega (arith, (on_goto (goal.at.overflow_cast-result c).In-2).0, (formed c.requires.tables.faultless).most_rows)
+overflow_cast-result c = omega (arith, (on_goto (goal.at.overflow_cast-result c).In-2).0, few c.requires.tables.faultless)
 
 pub overflow_add-result-in-2 : goal.overflow_add-result-in-2
-overflow_add-result-in-2 c = omega (arith, (on_goto (goal.at.overflow_add-result-in-2 c).In-2).0, (formed c.requires.tables.faultless).most_rows)
+overflow_add-result-in-2 c = omega (arith, (on_goto (goal.at.overflow_add-result-in-2 c).In-2).0, few c.requires.tables.faultless)
 
 pub overflow_sub-case : goal.overflow_sub-case
 overflow_sub-case c = let f = on-fallthrough (goal.at.overflow_sub-case c).In_default in omega (arith, c.wide-case.ensures, f.0)
@@ -68,27 +73,30 @@ pub size-requires : goal.size-requires
 size-requires c = let f = on-fallthrough (goal.at.size-requires c).In_default in omega (arith, c.wide-case.ensures, f.0, f.1)
 
 pub overflow_add-next : goal.overflow_add-next
-overflow_add-next c = omega (arith, next (goal.at.overflow_add-next c).After-size, (on-fallthrough (goal.at.overflow_add-next c).In_default).2, (formed c.requires.tables.faultless).most_rows)
+overflow_add-next c = omega (arith, next (goal.at.overflow_add-next c).After-size, (on-fallthrough (goal.at.overflow_add-next c).In_default).2, few c.requires.tables.faultless)
 
 pub overflow_add-result-in_default : goal.overflow_add-result-in_default
-overflow_add-result-in_default c = omega (arith, next (goal.at.overflow_add-result-in_default c).After-size, (on-fallthrough (goal.at.overflow_add-result-in_default c).In_default).2, (formed c.requires.tables.faultless).most_rows)
+overflow_add-result-in_default c = omega (arith, next (goal.at.overflow_add-result-in_default c).After-size, (on-fallthrough (goal.at.overflow_add-result-in_default c).In_default).2, few c.requires.tables.faultless)
 
 pub returns-in-0 : goal.returns-in-0
-returns-in-0 c =
-    (
-      rw (c.wide.ensures, c.statement-left.ensures) (on-break (goal.at.returns-in-0 c).In-0).2,
-      omega (arith, c.wide.ensures, c.type_inv.afters c.statement-left.result),
-    )
+returns-in-0 c = (
+  rw (c.wide.ensures, c.statement-left.ensures) (on-break (goal.at.returns-in-0 c).In-0).2,
+  omega (arith, c.wide.ensures, c.type_inv.afters c.statement-left.result),
+)
 
 pub returns-in-1 : goal.returns-in-1
 returns-in-1 c =
+    let t = (goal.at.returns-in-1 c).In-1 in
     let e = c.statement.ensures in
-    ((on-continue (goal.at.returns-in-1 c).In-1).2 _ (ap (λ (n : ℕ). n + 2) e), omega (arith, e, (on-continue (goal.at.returns-in-1 c).In-1).1, (formed c.requires.tables.faultless).most_rows))
+    ((on-continue t).2 _ (ap (λ (n : ℕ). n + 2) e), omega (arith, e, (on-continue t).1, few c.requires.tables.faultless))
 
 pub returns-in-2 : goal.returns-in-2
-returns-in-2 c = ((on_goto (goal.at.returns-in-2 c).In-2).1 _ refl, omega (arith, (on_goto (goal.at.returns-in-2 c).In-2).0, (formed c.requires.tables.faultless).most_rows))
+returns-in-2 c =
+    let t = (goal.at.returns-in-2 c).In-2 in
+    ((on_goto t).1 _ refl, omega (arith, (on_goto t).0, few c.requires.tables.faultless))
 
 pub returns-in_default : goal.returns-in_default
 returns-in_default c =
+    let t = (goal.at.returns-in_default c).After-size in
     let f = on-fallthrough (goal.at.returns-in_default c).In_default in
-    (f.3 _ (ap (λ (n : ℕ). n + 2) (next (goal.at.returns-in_default c).After-size)), omega (arith, next (goal.at.returns-in_default c).After-size, f.2, (formed c.requires.tables.faultless).most_rows))
+    (f.3 _ (ap (λ (n : ℕ). n + 2) (next t)), omega (arith, next t, f.2, few c.requires.tables.faultless))

@@ -156,9 +156,11 @@ loop-r-preserved c =
           (by_kind here is_breakable _ c.kind-kind.ensures (own-breakable _ _) _ c.is_breakable-is_breakable.ensures)
           c.from_parent.ensures breakables,
       filled_more body is_loop _ _ _ _ _ _ row h.1 q
-          (by_kind here is_loop _ c.kind-kind.ensures (own-loop _ _) _ c.is_loop-is_loop.ensures) c.from_parent-in-loop-r.ensures loops,
+          (by_kind here is_loop _ c.kind-kind.ensures (own-loop _ _) _ c.is_loop-is_loop.ensures)
+          c.from_parent-in-loop-r.ensures loops,
       filled_more body is_case _ _ _ _ _ _ row h.2 q
-          (by_kind here is_case _ c.kind-kind.ensures (own-case _ _) _ (λ d a. kind-case _ d a)) c.from_parent-in-loop-r-2.ensures cases,
+          (by_kind here is_case _ c.kind-kind.ensures (own-case _ _) _ (λ d a. kind-case _ d a))
+          c.from_parent-in-loop-r-2.ensures cases,
     )
 
 pub shape_of-breakables : goal.shape_of-breakables
@@ -173,4 +175,8 @@ shape_of-cases c = omega (arith, simp length-set at c.loop-r.invariant.4.same_le
 pub returns : goal.returns
 returns c =
     let v = c.loop-r.invariant in
-    let e = c.loop-r-test.false in record { breakables = λ k h. v.2.words k (omega arith); loops = λ k h. v.3.words k (omega arith); cases = λ k h. v.4.words k (omega arith) }
+    let e = c.loop-r-test.false in record {
+      breakables = λ k h. v.2.words k (omega arith);
+      loops = λ k h. v.3.words k (omega arith);
+      cases = λ k h. v.4.words k (omega arith);
+    }

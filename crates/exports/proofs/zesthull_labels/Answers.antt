@@ -10,9 +10,11 @@ use Rattle.exports.proofs.zesthull_labels.Goals as goal
 pub returns-in-Refused : goal.returns-in-Refused
 returns-in-Refused c =
     let e = c.labels.ensures in
-    let t = tells told_count c.number_of.ensures c.index_of.ensures (sym (ap given c.in-Refused.is) ∙ e.0) in record { number = t.0; value = t.1; sheet = e.1.0; bindings = e.1.1 }
+    let t = tells told_count c.number_of.ensures c.index_of.ensures (sym (ap given c.in-Refused.is) ∙ e.answer) in
+    record { number = t.0; value = t.1; sheet = e.sheet; bindings = e.bindings }
 
 pub returns-in-Faults : goal.returns-in-Faults
 returns-in-Faults c =
     let e = c.labels.ensures in
-    let t = tells told_count refl refl (sym (ap given c.in-Faults.is) ∙ e.0) in record { number = t.0; value = t.1; sheet = e.1.0; bindings = e.1.1 }
+    let t = tells told_count refl refl (sym (ap given c.in-Faults.is) ∙ e.answer) in
+    record { number = t.0; value = t.1; sheet = e.sheet; bindings = e.bindings }

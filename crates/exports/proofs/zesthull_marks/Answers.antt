@@ -13,9 +13,11 @@ placed_word-requires c =
 pub returns-in-Refused : goal.returns-in-Refused
 returns-in-Refused c =
     let e = c.mark.ensures in
-    let t = tells-marks _ _ c.number_of.ensures c.index_of.ensures refl refl (sym (ap given c.in-Refused.is) ∙ e.0) in record { number = t.0; value = t.1; placing = t.2; verdict = t.3; sheet = e.1.0; bindings = e.1.1 }
+    let t = tells-marks _ _ c.number_of.ensures c.index_of.ensures refl refl (sym (ap given c.in-Refused.is) ∙ e.answer) in
+    record { number = t.0; value = t.1; placing = t.2; verdict = t.3; sheet = e.sheet; bindings = e.bindings }
 
 pub returns-in-Marked : goal.returns-in-Marked
 returns-in-Marked c =
     let e = c.mark.ensures in
-    let t = tells-marks _ _ refl refl c.placed_word.ensures c.verdict_word.ensures (sym (ap given c.in-Marked.is) ∙ e.0) in record { number = t.0; value = t.1; placing = t.2; verdict = t.3; sheet = e.1.0; bindings = e.1.1 }
+    let t = tells-marks _ _ refl refl c.placed_word.ensures c.verdict_word.ensures (sym (ap given c.in-Marked.is) ∙ e.answer) in
+    record { number = t.0; value = t.1; placing = t.2; verdict = t.3; sheet = e.sheet; bindings = e.bindings }

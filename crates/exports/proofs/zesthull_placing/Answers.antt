@@ -1,32 +1,29 @@
 -- The placing call's answer, told as two numbers. The row badly placed is one of at most 2,000.
 -- Assumes nothing.
 use mathlib.Core.Path.{◌≡◌, refl, sym, ◌∙◌, ap}
-use mathlib.Core.Option.{some}
 use native.Mathlib.Omega.{arith}
 use native.Mathlib.Numerals.{add-one}
-use Rattle.rules.specs.Calls.{answered, placing_call}
 use Rattle.placing.specs.Given.{given}
 use Rattle.exports.specs.Told.{told_placing}
 use Rattle.exports.proofs.Telling.{tells, small_row}
 use borrow.Author.Rules.{rules}
 use Rattle.exports.proofs.zesthull_placing.Goals as goal
-use Rattle.exports.proofs.zesthull_placing.Tie as tie
-
--- the row that the call gives
-bad : (c : tie.After-struct_known-1) →
-    let s = c.args in
-    answered (some c.row-1.given.0.0.0) ≡ placing_call s.rows.now s.pairs.now s.bytes.now
-bad c = sym (ap given c.row-1.given.1) ∙ c.ask_placing.ensures
 
 pub overflow_add-value : goal.overflow_add-value
-overflow_add-value c = omega (arith, small_row _ _ _ _ (bad c.before))
+overflow_add-value c = omega (arith, small_row _ _ _ _ (sym (ap given c.in-Bad.is) ∙ c.ask_placing.ensures))
 
 pub returns-in-Refused : goal.returns-in-Refused
-returns-in-Refused c = let q = tells told_placing c.number_of.ensures c.index_of.ensures
-    (sym (ap given c.in-Refused.is) ∙ c.ask_placing.ensures) in record { number = q.0; value = q.1 }
+returns-in-Refused c =
+    let q = tells told_placing c.number_of.ensures c.index_of.ensures
+    (sym (ap given c.in-Refused.is) ∙ c.ask_placing.ensures) in
+    record { number = q.0; value = q.1 }
 
 pub returns-in-Bad : goal.returns-in-Bad
-returns-in-Bad c = let q = tells told_placing refl (add-one _) (bad c.before) in record { number = q.0; value = q.1 }
+returns-in-Bad c =
+    let q = tells told_placing refl (add-one _) (sym (ap given c.in-Bad.is) ∙ c.ask_placing.ensures) in
+    record { number = q.0; value = q.1 }
 
 pub returns-in-Well : goal.returns-in-Well
-returns-in-Well c = let q = tells told_placing refl refl (sym (ap given c.in-Well.is) ∙ c.ask_placing.ensures) in record { number = q.0; value = q.1 }
+returns-in-Well c =
+    let q = tells told_placing refl refl (sym (ap given c.in-Well.is) ∙ c.ask_placing.ensures) in
+    record { number = q.0; value = q.1 }

@@ -13,9 +13,11 @@ place_word-requires c =
 pub returns-in-Refused : goal.returns-in-Refused
 returns-in-Refused c =
     let t = tells-walk _ _ c.number_of.ensures c.index_of.ensures refl refl
-    (sym (ap given c.in-Refused.is) ∙ c.walk.ensures) in record { number = t.0; value = t.1; steps = t.2; used = t.3 }
+    (sym (ap given c.in-Refused.is) ∙ c.walk.ensures) in
+    record { number = t.0; value = t.1; steps = t.2; used = t.3 }
 
 pub returns-in-Reached : goal.returns-in-Reached
 returns-in-Reached c =
     let t = tells-walk _ _ refl c.place_word.ensures refl refl
-    (sym (ap given c.in-Reached.is) ∙ c.walk.ensures) in record { number = t.0; value = t.1; steps = t.2; used = t.3 }
+    (sym (ap given c.in-Reached.is) ∙ c.walk.ensures) in
+    record { number = t.0; value = t.1; steps = t.2; used = t.3 }

@@ -15,7 +15,7 @@ loop-input-init g c = (search rules, c.requires)
 pub read_on-input-requires : goal.read_on-input-requires
 read_on-input-requires g c = (
   c.loop-input.invariant.1 (not-true _ c.loop-input-test.true),
-  omega (arith, c.loop-input.invariant.0, c.read_full-got.ensures.0, c.read_full-got.auto.1.0),
+  omega (arith, c.in_ok-got.ensures.bound.0),
 )
 
 pub loop-input-smaller : goal.loop-input-smaller
@@ -25,6 +25,6 @@ loop-input-smaller g c =
 
 pub loop-input-preserved : goal.loop-input-preserved
 loop-input-preserved g c = (
-  omega (arith, c.loop-input.invariant.0, c.read_full-got.auto.1.0),
+  omega arith,
   λ e. rw c.read_on-input.ensures.length (not_last _ _ (sym c.read_on-input.ensures.ended ∙ e)),
 )

@@ -8,7 +8,7 @@ use Rattle.parents.proofs.write_children.Goals as goal
 use Rattle.parents.proofs.write_children.Goals.{In-loop-c}
 
 -- the child of a turn is a row
-turn : (c : In-loop-c) → let w = c.args.rows.now in 
+turn : (c : In-loop-c) → let w = c.args.rows.now in
     (c.loop-c.c < row_count w) × (0 < size w c.loop-c.c) × (end w c.loop-c.c ≤ 2000)
 turn c = inside c.requires.formed.0.2 c.args.r _ c.requires.formed.1 (omega (arith, c.loop-c-test.true, c.loop-c.invariant.0))
 

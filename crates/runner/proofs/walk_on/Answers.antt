@@ -120,7 +120,7 @@ bounds-steps-step c = (leads (goal.at.bounds-steps-step c).Joined-is_fork).1
 pub past_rounds-made-requires : goal.past_rounds-made-requires
 past_rounds-made-requires c =
     let t = same_turn c.wide-place.result _ (c.loop-made.made + 1) _ _ c.wide-place.ensures (add-one _)
-        (leads (goal.at.past_rounds-made-requires c).Joined-is_fork).2 in
+    (leads (goal.at.past_rounds-made-requires c).Joined-is_fork).2 in
     record { faultless = c.requires; inside = (t.inside, t.within) }
 
 pub loop-made-smaller : goal.loop-made-smaller

@@ -15,7 +15,8 @@ loop-r-init c =
 pub row_steps-first-requires : goal.row_steps-first-requires
 row_steps-first-requires c =
     let v = c.loop-r.invariant in
-    let p = c.requires in record { tables = (p.tables, c.loop-r-test.true); r_in_bounds = row_room p.tables.body c.loop-r-test.true v.3 _ (omega (arith, p.rows_in_bounds.1, v.2)) }
+    let p = c.requires in
+    record { tables = (p.tables, c.loop-r-test.true); r_in_bounds = row_room p.tables.body c.loop-r-test.true v.3 _ (omega (arith, p.rows_in_bounds.1, v.2)) }
 
 pub overflow_cast-firsts : goal.overflow_cast-firsts
 overflow_cast-firsts c =

@@ -14,7 +14,7 @@ use Rattle.steps.proofs.clause_steps.Goals.{In-loop-c, then-class-eq-DEFAULT_CAS
 inside : (c : In-loop-c) → c.loop-c.c < end c.args.rows.now c.args.r
 inside c = omega (arith, c.loop-c-test.true, c.size.ensures)
 
-row : (c : In-loop-c) → 
+row : (c : In-loop-c) →
     (c.loop-c.c < row_count c.args.rows.now) × (row_count c.args.rows.now ≤ 2000)
 row c =
     let b = c.requires.0.2 in
@@ -73,15 +73,15 @@ loop-c-preserved c =
     let v = c.loop-c.invariant in
     let t = (goal.at.loop-c-preserved c).In-loop-c in
     let found = default-found (class c.args.rows.now c.loop-c.c) c.loop-c.default c.if-class-eq-DEFAULT_CASE.default c.if-class-eq-DEFAULT_COMM.default
-        c.class_of-class.ensures
-        (elim c.if-class-eq-DEFAULT_CASE.branch [
-          | then-class-eq-DEFAULT_CASE w ↦ inl (w.if-class-eq-DEFAULT_CASE.true, w.default-is)
-          | else-class-eq-DEFAULT_CASE w ↦ inr (w.if-class-eq-DEFAULT_CASE.false, w.default-is)
-        ])
-        (elim c.if-class-eq-DEFAULT_COMM.branch [
-          | then-class-eq-DEFAULT_COMM w ↦ inl (w.if-class-eq-DEFAULT_COMM.true, w.default-is)
-          | else-class-eq-DEFAULT_COMM w ↦ inr (w.if-class-eq-DEFAULT_COMM.false, w.default-is)
-        ]) in
+    c.class_of-class.ensures
+    (elim c.if-class-eq-DEFAULT_CASE.branch [
+      | then-class-eq-DEFAULT_CASE w ↦ inl (w.if-class-eq-DEFAULT_CASE.true, w.default-is)
+      | else-class-eq-DEFAULT_CASE w ↦ inr (w.if-class-eq-DEFAULT_CASE.false, w.default-is)
+    ])
+    (elim c.if-class-eq-DEFAULT_COMM.branch [
+      | then-class-eq-DEFAULT_COMM w ↦ inl (w.if-class-eq-DEFAULT_COMM.true, w.default-is)
+      | else-class-eq-DEFAULT_COMM w ↦ inr (w.if-class-eq-DEFAULT_COMM.false, w.default-is)
+    ]) in
     (length-set c.loop-c.steps _ _ ∙ v.0, clauses-more v.1 (inside t) _ (room t) (some_rows t) refl c.size-c.ensures found)
 
 pub returns : goal.returns

@@ -22,7 +22,7 @@ pub size-requires : goal.size-requires
 size-requires c = omega (arith, (rows_fit (goal.at.size-requires c).Start).0)
 
 -- the place written
-word : (c : After-size) → 
+word : (c : After-size) →
     c.args.r + 3 + c.size.result ≡ suc (suc (end c.args.rows.now (suc c.args.r)))
 word c =
     let z : c.size.result ≡ size c.args.rows.now (suc c.args.r) = c.size.ensures ∙ ap (size c.args.rows.now) (add-one _) in

@@ -52,7 +52,8 @@ returns-in-22 c =
 pub switch_steps-requires : goal.switch_steps-requires
 switch_steps-requires c =
     let p = c.requires in
-    let e = c.class_of-class.ensures in record { formed = ((_, _, p.tables.0.body), p.tables.1, (_, _, p.r_in_bounds)); r_value = (is-switch p.tables.0 p.tables.1 e 18 refl c.in-18.is, p.tables.0.after_rows _ p.tables.1) }
+    let e = c.class_of-class.ensures in
+    record { formed = ((_, _, p.tables.0.body), p.tables.1, (_, _, p.r_in_bounds)); r_value = (is-switch p.tables.0 p.tables.1 e 18 refl c.in-18.is, p.tables.0.after_rows _ p.tables.1) }
 
 pub returns-in-18 : goal.returns-in-18
 returns-in-18 c = c.switch_steps.ensures _ _
@@ -60,7 +61,8 @@ returns-in-18 c = c.switch_steps.ensures _ _
 pub switch_steps-requires-in-19 : goal.switch_steps-requires-in-19
 switch_steps-requires-in-19 c =
     let p = c.requires in
-    let e = c.class_of-class.ensures in record { formed = ((_, _, p.tables.0.body), p.tables.1, (_, _, p.r_in_bounds)); r_value = (is-switch p.tables.0 p.tables.1 e 19 refl c.in-19.is, p.tables.0.after_rows _ p.tables.1) }
+    let e = c.class_of-class.ensures in
+    record { formed = ((_, _, p.tables.0.body), p.tables.1, (_, _, p.r_in_bounds)); r_value = (is-switch p.tables.0 p.tables.1 e 19 refl c.in-19.is, p.tables.0.after_rows _ p.tables.1) }
 
 pub returns-in-19 : goal.returns-in-19
 returns-in-19 c = c.switch_steps-in-19.ensures _ _
@@ -68,7 +70,8 @@ returns-in-19 c = c.switch_steps-in-19.ensures _ _
 -- ---- a Select
 pub select_steps-requires : goal.select_steps-requires
 select_steps-requires c =
-    let p = c.requires in record { formed = ((_, _, p.tables.0.body), p.tables.1, (_, _, p.r_in_bounds)); r_value = is-select p.tables.0 p.tables.1 c.class_of-class.ensures c.in-20.is }
+    let p = c.requires in
+    record { formed = ((_, _, p.tables.0.body), p.tables.1, (_, _, p.r_in_bounds)); r_value = is-select p.tables.0 p.tables.1 c.class_of-class.ensures c.in-20.is }
 
 pub returns-in-20 : goal.returns-in-20
 returns-in-20 c = c.select_steps.ensures _ _
