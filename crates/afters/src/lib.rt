@@ -1,5 +1,7 @@
 // Where the runner goes on after each row, in one pass: after row 0 the closing brace, after any other
 // row what its parent gives.
+#![tactic(auto)]
+
 ghost use Rattle.std.specs.Prelude.{◌≡◌, ◌≤◌, ◌<◌, length};
 ghost use Rattle.rules.specs.Rows.{row_count};
 ghost use Rattle.rules.specs.Class.{class};

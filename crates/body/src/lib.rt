@@ -1,4 +1,6 @@
 // Refusals 1 to 6 and 10 of the lent records, and with them whether a body is well-formed.
+#![tactic(auto)]
+
 pub mod defaults;
 pub mod depth;
 

@@ -1,5 +1,7 @@
 // The file of a body, as `marks` reads it: three counts (rows, names, name bytes), then the row
 // words, the pair words and the name bytes. Words have 32 bits and are little-endian.
+#![tactic(auto)]
+
 ghost use Rattle.std.specs.Prelude.{◌≡◌, ◌+◌, ◌*◌, ◌≤◌, ◌<◌, length};
 ghost use Rattle.bodyfile.specs.Limits.{bad_start, count_refusal};
 ghost use Rattle.bodyfile.specs.File.{word as word_at, words as words_at, rows, names, bytes};

@@ -1,5 +1,7 @@
 // From goscript's returns.rs: whether a break refers to a statement. The search in a statement and
 // the search in a list call each other, downward.
+#![tactic(auto)]
+
 ghost use Rattle.std.specs.Prelude.{◌≡◌, ◌<◌};
 ghost use Rattle.rules.specs.Rows.{row_count, kind, end};
 ghost use Rattle.rules.specs.Body.{Body};

@@ -1,6 +1,8 @@
 // The canonical number of each name: the first name number with the same bytes. Two names have the
 // same canonical number exactly when their bytes are the same. Each name belongs to a slot by its
 // hash, and the names of a slot are linked, so that a name is compared with those of its slot only.
+#![tactic(auto)]
+
 ghost use Rattle.std.specs.Prelude.{◌≡◌, true, ℕ, suc, ◌≤◌, ◌<◌, length, get_or};
 ghost use Rattle.rules.specs.Names.{count_of_pairs, names_ok};
 ghost use Rattle.canonical.specs.First.{first, Numbered};

@@ -1,5 +1,7 @@
 // What a row is, as the number of its class: the classes are those that the rules tell apart, and a
 // Block right after a switch or Select is the Block of it.
+#![tactic(auto)]
+
 ghost use Rattle.std.specs.Prelude.{◌≡◌, ◌<◌};
 ghost use Rattle.rules.specs.Rows.{row_count};
 ghost use Rattle.rules.specs.Class.{code, base, class};

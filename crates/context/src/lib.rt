@@ -1,5 +1,7 @@
 // What goscript hands down the label walk as `StmtBranchesContext`: the latest declaration of the
 // list, and its current label. A row is written as 1 + its number, and 0 stands for none.
+#![tactic(auto)]
+
 ghost use Rattle.std.specs.Prelude.{◌≡◌};
 ghost use Rattle.context.specs.Fields.{with_latest, with_label};
 

@@ -1,6 +1,8 @@
 // Where each Branch of a body without a fault goes. A labelled break or continue refers to the
 // statement below the label that it binds to, an unlabelled one to the innermost around it; a goto goes
 // to its label, a fallthrough to where its Case ends.
+#![tactic(auto)]
+
 ghost use Rattle.std.specs.Prelude.{◌≡◌, zero, suc, ◌-◌, ◌≤◌, ◌<◌, length};
 ghost use Rattle.std.proofs.Math.Option.{some};
 ghost use Rattle.rules.specs.Rows.{row_count, kind};

@@ -1,6 +1,8 @@
 // The statement around each row that an unlabelled break leaves, the loop that an unlabelled continue
 // goes to and the Case that a fallthrough leaves, in one pass: a row's own are its parent, if that is
 // one, or its parent's.
+#![tactic(auto)]
+
 ghost use Rattle.std.specs.Prelude.{◌≡◌, true, false, suc, ◌≤◌, length};
 ghost use Rattle.rules.specs.Rows.{row_count};
 ghost use Rattle.rules.specs.Class.{is_breakable, is_loop, is_case};

@@ -1,6 +1,8 @@
 // The calls for programs in C and Rust: bindings/c/zesthull.h declares them. A slice is a pointer and
 // a count. Each call returns the number of the refusal, 0 for none, and writes the refusal's index or
 // the answer through `value`. A refusal changes nothing else.
+#![tactic(auto)]
+
 ghost use Rattle.std.specs.Prelude.{◌≡◌, ◌≤◌};
 ghost use Rattle.rules.specs.Refusals.{refusal};
 ghost use Rattle.rules.specs.Calls.{placing_call, verdict_call, label_call};

@@ -1,5 +1,7 @@
 // Refusal 8: whether a well-formed body has a label fault or a row badly placed. Its sheet is worked out
 // in a buffer of its own, which comes in two sizes.
+#![tactic(auto)]
+
 ghost use Rattle.std.specs.Prelude.{◌*◌, ◌≤◌, length};
 ghost use Rattle.rules.specs.Rows.{row_count};
 ghost use Rattle.rules.specs.Refusals.{WellFormed};

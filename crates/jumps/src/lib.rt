@@ -1,4 +1,6 @@
 // Labelled branches: where a break, continue or goto goes.
+#![tactic(auto)]
+
 ghost use Rattle.std.specs.Prelude.{◌≡◌, true, [], ◌∷◌, suc, ◌<◌};
 ghost use Rattle.rules.specs.Rows.{row_count, name};
 ghost use Rattle.rules.specs.Class.{break, continue, goto, one_of, is_branch, class};

@@ -3,6 +3,8 @@
 // The walk is goscript's, over the rows in order; what goscript hands down as context stands in two
 // tables by the list's row. A name is its canonical number, 0 for none and for `_`. A row is written
 // as 1 + its number where 0 stands for none.
+#![tactic(auto)]
+
 ghost use Rattle.std.specs.Prelude.{◌≡◌, true, ◌*◌, ◌≤◌, length};
 ghost use Rattle.rules.specs.Rows.{row_count};
 ghost use Rattle.rules.specs.Refusals.{WellFormed};

@@ -1,5 +1,7 @@
 // The label walk of a body with names, from its tables to the last row of its sheet. The tables come
 // in two sizes.
+#![tactic(auto)]
+
 ghost use Rattle.std.specs.Prelude.{◌≤◌, ◌<◌};
 ghost use Rattle.rules.specs.Rows.{row_count};
 ghost use Rattle.rules.specs.Names.{count_of_pairs};

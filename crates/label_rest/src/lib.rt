@@ -1,4 +1,6 @@
 // What is left at the end of the walk: gotos without a label, and labels that nothing used.
+#![tactic(auto)]
+
 ghost use Rattle.std.specs.Prelude.{◌≡◌, ℕ, suc, ◌*◌, ◌≤◌, ◌<◌, length, get_or, take};
 ghost use Rattle.rules.specs.Rows.{row_count, kind};
 ghost use Rattle.rules.specs.Names.{count_of_pairs};

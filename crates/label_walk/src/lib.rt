@@ -2,6 +2,8 @@
 // list of a row is written as the walk comes to the row. The context of a list, its latest
 // declaration and its latest label so far, stands in two tables by the list's row, each 1 + its row,
 // or 0.
+#![tactic(auto)]
+
 ghost use Rattle.std.specs.Prelude.{◌≡◌, true, ◌||◌, suc, ◌+◌, ◌-◌, ◌≤◌, ◌<◌, eqb, length, get_or, set};
 ghost use Rattle.rules.specs.Rows.{row_count};
 ghost use Rattle.rules.specs.Class.{declaration, labeled, class};

@@ -1,5 +1,7 @@
 // The marks of a body in one call: its sheet and bindings, its placing and its verdict, after one
 // look for refusals.
+#![tactic(auto)]
+
 ghost use Rattle.std.specs.Prelude.{◌≡◌};
 ghost use Rattle.rules.specs.Refusals.{WellFormed};
 ghost use Rattle.rules.specs.Calls.{label_call};

@@ -1,5 +1,7 @@
 // Names: pairs of offset and length into the name bytes. Their causes of refusal, the bytes of a
 // name as a part of the caller's own, and equality and order by bytes.
+#![tactic(auto)]
+
 pub mod order;
 
 ghost use Rattle.std.specs.Prelude.{◌≡◌, true};

@@ -1,4 +1,6 @@
 // The parent of each row, in one pass: each row in order writes its number to its children.
+#![tactic(auto)]
+
 ghost use Rattle.std.specs.Prelude.{◌+◌, ◌≤◌, ◌<◌, length};
 ghost use Rattle.rules.specs.Rows.{row_count};
 ghost use Rattle.rules.specs.Body.{Formed};

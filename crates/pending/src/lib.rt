@@ -1,5 +1,7 @@
 // A label: whether it repeats a name, and the pending gotos of its list that it resolves. The
 // pending gotos of a name are linked, each to the one before it.
+#![tactic(auto)]
+
 ghost use Rattle.std.specs.Prelude.{◌≡◌, true, List, ℕ, suc, ◌+◌, ◌*◌, ◌≤◌, ◌<◌, length};
 ghost use Rattle.rules.specs.Rows.{row_count};
 ghost use Rattle.rules.specs.Labels.{is_label, latest_declaration, word};

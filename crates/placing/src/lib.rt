@@ -1,4 +1,6 @@
 // The placing call: the first unlabelled break, continue or fallthrough that is badly placed.
+#![tactic(auto)]
+
 mod counts;
 
 ghost use Rattle.std.specs.Prelude.{◌≡◌, true, false, ◌≤◌, ◌<◌, length};

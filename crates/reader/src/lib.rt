@@ -1,5 +1,7 @@
 // The verdict call and the placing call on row words that a reader holds. Each goes on to the call on
 // the plain slice, in returns and placing.
+#![tactic(auto)]
+
 ghost use Rattle.std.specs.Prelude.{◌≡◌};
 ghost use Rattle.rules.specs.Calls.{verdict_call, placing_call};
 ghost use Rattle.returns.specs.Given.{given as given_verdict};

@@ -1,4 +1,6 @@
 // Why a call has no answer: one enum for every call, with the number and index of documents 01 and 02.
+#![tactic(auto)]
+
 ghost use Rattle.std.specs.Prelude.{◌≡◌};
 ghost use Rattle.refusals.specs.Returned.{returned};
 

@@ -1,4 +1,6 @@
 // What the program `marks` prints for the file of a body, as bytes.
+#![tactic(auto)]
+
 ghost use Rattle.std.specs.Prelude.{◌≡◌, ◌++◌, ◌*◌, ◌≤◌, length as length_of, take};
 ghost use Rattle.io.specs.Counts.{IsPrefixLen};
 ghost use Rattle.bodyfile.specs.File.{row_words_of, pair_words_of, name_bytes};

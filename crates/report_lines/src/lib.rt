@@ -1,5 +1,7 @@
 // The parts of the output: the sheet, the bindings, the placing, the verdict and the refusal. Each
 // function puts its part at `at` and answers where it ends.
+#![tactic(auto)]
+
 pub mod text;
 
 ghost use Rattle.std.specs.Prelude.{◌≡◌, ◌+◌, ◌*◌, ◌≤◌, ◌<◌, length, take};

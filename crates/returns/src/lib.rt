@@ -1,5 +1,7 @@
 // Port of goscript's returns.rs: whether a body is terminating. The statement rule and the list rule
 // call each other, downward. Its searches for a break are in crate breaks.
+#![tactic(auto)]
+
 ghost use Rattle.std.specs.Prelude.{◌≡◌, true, ◌||◌, ◌<◌};
 ghost use Rattle.rules.specs.Rows.{row_count};
 ghost use Rattle.rules.specs.Class.{select, is_switch, is_statement, class};

@@ -1,4 +1,6 @@
 // What is looked at of one row: its own words (cause 4), its children, and runs of plain items.
+#![tactic(auto)]
+
 pub mod parts;
 pub mod plain;
 

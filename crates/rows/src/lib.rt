@@ -1,5 +1,7 @@
 // Row numbers, the five words of a row (kind, detail, position, name, size), and the table of the
 // allowed details.
+#![tactic(auto)]
+
 pub mod details;
 pub mod kinds;
 

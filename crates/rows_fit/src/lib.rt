@@ -1,5 +1,7 @@
 // One walk down the rows, which finds out whether none of the causes 4, 5, 10 and 6 applies. It
 // doesn't say which applies, or to which row.
+#![tactic(auto)]
+
 ghost use Rattle.std.specs.Prelude.{◌≡◌, true, List, ℕ, ◌≤◌, ◌<◌};
 ghost use Rattle.rules.specs.Rows.{row_count};
 ghost use Rattle.rules.specs.Class.{class};

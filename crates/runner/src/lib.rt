@@ -1,4 +1,6 @@
 // The walk call: a body's runner led by given choices, up to a limit of steps.
+#![tactic(auto)]
+
 ghost use Rattle.std.specs.Prelude.{◌≡◌, ◌≤◌, ◌<◌};
 ghost use Rattle.rules.specs.Rows.{row_count};
 ghost use Rattle.rules.specs.Refusals.{WellFormed};

@@ -1,4 +1,6 @@
 // Cause 5, second part: the lowest row whose children, stepped through by size, break its shape.
+#![tactic(auto)]
+
 ghost use Rattle.std.specs.Prelude.{◌≡◌, true, not, ℕ, suc, ◌<◌};
 ghost use Rattle.rules.specs.Scan.{lowest};
 ghost use Rattle.rules.specs.Rows.{row_count, size, end};

@@ -1,4 +1,6 @@
 // Name numbers sorted by their bytes, by merging: the order in which unused labels are reported.
+#![tactic(auto)]
+
 ghost use Rattle.std.specs.Prelude.{◌≡◌, true, ◌+◌, ◌≤◌, ◌<◌, length, take, drop};
 ghost use Rattle.rules.specs.Names.{names_ok, name_bytes, bytes_before};
 ghost use Rattle.sorting.specs.Sorted.{Sorted, SameElements};

@@ -1,5 +1,7 @@
 // The steps of a body without a fault: for each row the places that its choices lead to, in two tables
 // that are made in one pass. Where a walk goes next is then looked up.
+#![tactic(auto)]
+
 ghost use Rattle.std.specs.Prelude.{◌≡◌, true, List, ℕ, suc, ◌+◌, ◌*◌, ◌≤◌, ◌<◌, length};
 ghost use Rattle.rules.specs.Rows.{row_count, end};
 ghost use Rattle.rules.specs.Class.{code, is_switch, if_else, select, class};

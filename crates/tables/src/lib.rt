@@ -1,5 +1,7 @@
 // The tables that the label walk reads: canonical numbers by name number, declared labels by
 // canonical number.
+#![tactic(auto)]
+
 ghost use Rattle.std.specs.Prelude.{◌≡◌, true, ℕ, ◌<◌, length, get_or};
 ghost use Rattle.rules.specs.Rows.{row_count, name};
 ghost use Rattle.rules.specs.Names.{count_of_pairs, names_ok, is_blank};

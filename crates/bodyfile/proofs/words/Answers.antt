@@ -34,11 +34,10 @@ pub loop-k-smaller : goal.loop-k-smaller
 loop-k-smaller c = simp length-set (omega arith)
 
 pub loop-k-preserved : goal.loop-k-preserved
-loop-k-preserved c =
-    (
-      simp length-set (omega arith),
-      (length-set c.loop-k.out c.loop-k.k c.word.result ∙ c.loop-k.invariant.1.0, further _ c.loop-k.out _ c.loop-k.k _ (omega arith) c.loop-k.invariant.1.1 c.word.ensures),
-    )
+loop-k-preserved c = (
+  simp length-set (omega arith),
+  (length-set c.loop-k.out c.loop-k.k c.word.result ∙ c.loop-k.invariant.1.0, further _ c.loop-k.out _ c.loop-k.k _ (omega arith) c.loop-k.invariant.1.1 c.word.ensures),
+)
 
 pub returns : goal.returns
 returns c = all _ c.loop-k.out _ c.loop-k.k _ c.loop-k.invariant.1.0 (omega arith) c.loop-k.invariant.1.1

@@ -36,12 +36,11 @@ overflow_add-code c =
     omega (arith, break-detail c.args.rows.now _ (c.requires.tables.body.details _ c.requires.row_bound.0) c.requires.row_bound.1, c.detail-code.ensures)
 
 pub put-requires : goal.put-requires
-put-requires c =
-    (
-      c.requires.row_bound.0,
-      break-fits c.requires.tables _ _ _ _ _ _ c.requires.row_bound.0 c.requires.walking c.requires.row_bound.1 c.requires.row_bound.2 _ (ap (λ (n : ℕ). 4 + n) c.detail-code.ensures)
-          (sym c.if-valid_target.false ∙ c.valid_target.ensures),
-    )
+put-requires c = (
+  c.requires.row_bound.0,
+  break-fits c.requires.tables _ _ _ _ _ _ c.requires.row_bound.0 c.requires.walking c.requires.row_bound.1 c.requires.row_bound.2 _ (ap (λ (n : ℕ). 4 + n) c.detail-code.ensures)
+      (sym c.if-valid_target.false ∙ c.valid_target.ensures),
+)
 
 pub overflow_add-result : goal.overflow_add-result
 overflow_add-result c =

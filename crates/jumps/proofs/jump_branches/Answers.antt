@@ -15,13 +15,12 @@ returns-then-name-eq0 c =
     unlabelled c.requires.tables _ _ _ _ _ _ c.requires.row_bound.0 c.requires.walking c.requires.row_bound.1 (sym c.name-name.ensures ∙ c.if-name-eq0.true)
 
 pub put-requires : goal.put-requires
-put-requires c =
-    (
-      c.requires.row_bound.0,
-      fallthrough-fits c.requires.tables _ _ _ _ _ _ c.requires.row_bound.0 c.requires.walking
-          (detail-fallthrough c.args.rows.now _ (c.requires.tables.body.details _ c.requires.row_bound.0) c.requires.row_bound.1 (sym c.detail-detail.ensures ∙ c.if-detail-eq-FALLTHROUGH.true))
-          (λ e. c.if-name-eq0.false (c.name-name.ensures ∙ e)),
-    )
+put-requires c = (
+  c.requires.row_bound.0,
+  fallthrough-fits c.requires.tables _ _ _ _ _ _ c.requires.row_bound.0 c.requires.walking
+      (detail-fallthrough c.args.rows.now _ (c.requires.tables.body.details _ c.requires.row_bound.0) c.requires.row_bound.1 (sym c.detail-detail.ensures ∙ c.if-detail-eq-FALLTHROUGH.true))
+      (λ e. c.if-name-eq0.false (c.name-name.ensures ∙ e)),
+)
 
 pub overflow_add-result : goal.overflow_add-result
 overflow_add-result c =

@@ -32,9 +32,12 @@ pub returns-in-Refused : goal.returns-in-Refused
 returns-in-Refused c =
     let m = c.mark.ensures in
     let e = sym (ap given c.in-Refused.is) ∙ m.answer in
-    let t = c.refused_text.ensures in record { text = t.text ∙ ap (λ n. refused_text n c.index_of.result) c.number_of.ensures
+    let t = c.refused_text.ensures in record {
+      text = t.text ∙ ap (λ n. refused_text n c.index_of.result) c.number_of.ensures
           ∙ ap (refused_text _) c.index_of.ensures
-          ∙ refused-text _ _ _ _ _ (enough _ 16000 2000 (omega arith) (omega arith) (omega arith)) _ _ e; counts = t.counts }
+          ∙ refused-text _ _ _ _ _ (enough _ 16000 2000 (omega arith) (omega arith) (omega arith)) _ _ e;
+      counts = t.counts;
+    }
 
 pub returns-in-Marked : goal.returns-in-Marked
 returns-in-Marked c =

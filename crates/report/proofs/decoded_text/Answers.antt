@@ -54,8 +54,11 @@ pub returns : goal.returns
 returns c =
     let r = c.word.ensures in
     let p = c.word-2.ensures in
-    let t = c.body_text.ensures in record { text = t.text
+    let t = c.body_text.ensures in record {
+      text = t.text
           ∙ parts _ _ _ _ _ _ c.requires.1.0 r p
           (words-read _ _ _ _ _ _ (rows_fit c.requires.0 r c.requires.1.1.0) c.words.ensures)
           (words-read _ _ _ _ _ _ (pairs-fit c.requires.0 p c.requires.1.1.1.0) c.words-2.ensures)
-          refl; counts = t.counts }
+          refl;
+      counts = t.counts;
+    }

@@ -149,7 +149,7 @@ is_terminating_switch-returns-then-not-is_terminating_list t c =
 pub is_terminating_switch-has_break_list-requires : goal.is_terminating_switch-has_break_list-requires
 is_terminating_switch-has_break_list-requires t c =
     let call = clause-call (opened (goal.at.is_terminating_switch-has_break_list-requires t c).After-size) c.loop-c.invariant c.loop-c-test.true
-        c.size-in-loop-c.ensures in
+    c.size-in-loop-c.ensures in
     (call.1.0, call.1.1)
 
 pub is_terminating_switch-returns-then-has_break_list : goal.is_terminating_switch-returns-then-has_break_list

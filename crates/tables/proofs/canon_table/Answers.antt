@@ -15,9 +15,9 @@ loop-n-preserved c =
     let h = c.loop-n-test.true in
     elim c.if-is_blank.branch [
       | then-is_blank w ↦ (
-          i.0,
-          rw w.canonical-is (length-set c.loop-n.canonical c.loop-n.n _ ∙ i.1),
-          rw w.canonical-is (filling-blank _ _ _ _ i.2 h (sym c.is_blank.ensures ∙ w.if-is_blank.true)),
+        i.0,
+        rw w.canonical-is (length-set c.loop-n.canonical c.loop-n.n _ ∙ i.1),
+        rw w.canonical-is (filling-blank _ _ _ _ i.2 h (sym c.is_blank.ensures ∙ w.if-is_blank.true)),
       )
       | else-is_blank w ↦
           (i.0, rw w.canonical-is i.1, rw w.canonical-is (filling-kept _ _ _ _ i.2 h (sym c.is_blank.ensures ∙ w.if-is_blank.false)))

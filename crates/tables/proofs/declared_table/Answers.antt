@@ -32,9 +32,9 @@ loop-r-preserved c =
     let q = placed b c.requires.body.1 h i.2 in
     elim c.if-kind-eq-LABELED.branch [
       | then-kind-eq-LABELED+then-c-ne0+then-label_rows-c-eq0 w ↦ (
-          i.0,
-          rw w.label_rows-is (length-set c.loop-r.label_rows _ _ ∙ i.1),
-          rw w.label_rows-is (declaring-first b _ _ i.2 h _ (q _ w.canon_of-c.ensures) (sym k ∙ w.if-kind-eq-LABELED.true) w.if-c-ne0.true w.if-label_rows-c-eq0.true),
+        i.0,
+        rw w.label_rows-is (length-set c.loop-r.label_rows _ _ ∙ i.1),
+        rw w.label_rows-is (declaring-first b _ _ i.2 h _ (q _ w.canon_of-c.ensures) (sym k ∙ w.if-kind-eq-LABELED.true) w.if-c-ne0.true w.if-label_rows-c-eq0.true),
       )
       | then-kind-eq-LABELED+then-c-ne0+else-label_rows-c-eq0 w ↦
           (i.0, rw w.label_rows-is i.1, rw w.label_rows-is (declaring-again b _ _ i.2 h _ (q _ w.canon_of-c.ensures) w.if-label_rows-c-eq0.false))
