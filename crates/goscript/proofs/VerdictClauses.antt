@@ -20,7 +20,7 @@ use Rattle.rules.proofs.Nesting.{item_from}
 use Rattle.rules.proofs.Shape.{opens}
 use Rattle.rules.proofs.ClassRules.{class-rule, child-rule}
 use Rattle.breaks.specs.Leaves.{label_number, Closed, any_leaves}
-use Rattle.returns.specs.Search.{is_terminating_body, is_terminating_list}
+use Rattle.returns.specs.Search.{is_terminating_body, is_terminating_list as is_terminating_items}
 use Rattle.breaks.proofs.Ranges.{closed-rest}
 use Rattle.returns.proofs.Clauses.{is_clause, clause-list, left, left_ended, left_open, left-broken, left-next, clause-of, left-start}
 use Rattle.goscript.specs.Build.{Build}
@@ -67,7 +67,7 @@ module _ (build : Build) {w p b : List ℕ} (body : Body w p b) (s : ℕ) (row :
         let ending = list-rule body c h build f answered (clause-list (class w c) clause) (omega arith) in
         let breaking = list-breaks body s row handed f c (omega arith) (omega arith) no_block (omega arith) in
         let n = label_number w s in
-        case-of (is_terminating_list w p b (end w c) (suc c))
+        case-of (is_terminating_items w p b (end w c) (suc c))
         (λ u. case-of (any_leaves w p b (suc c) (end w c) n true)
         (λ v. rw (all_more passes c l, ending, u, breaking, v) (sym (left-broken body n found a m clause v)))
         (λ v. rw (all_more passes c l, ending, u, breaking, v, any-more default c l, agrees c i, ← or_assoc found (is_default (class w c)) (any default l))

@@ -19,7 +19,7 @@ use Rattle.rules.proofs.Every.{is_one}
 use Rattle.rules.proofs.Nesting.{item-before, item_from}
 use Rattle.rules.proofs.Around.{only-empty, all-empty}
 use Rattle.breaks.specs.Leaves.{label_number}
-use Rattle.returns.specs.Search.{Last, is_terminating_body, is_terminating_list}
+use Rattle.returns.specs.Search.{Last, is_terminating_body, is_terminating_list as is_terminating_items}
 use Rattle.breaks.proofs.Ranges.{closed-below, label-of-item, list-label, list-statements}
 use Rattle.returns.proofs.Calls.{one-row-empties}
 use Rattle.returns.proofs.ByClass as by_class
@@ -69,7 +69,7 @@ module _ {w p b : List ℕ} (body : Body w p b) (q : ℕ) (h : q < row_count w) 
 
   -- the list of a row that holds one
   pub list-rule : (build : Build) (f : ℕ) → Answered build w p b f → is_list (class w q) ≡ true → 2 * size w q < suc (suc f)
-      → is_terminating_list build w p b (suc f) (list w q) none ≡ is_terminating_list w p b (end w q) (suc q)
+      → is_terminating_list build w p b (suc f) (list w q) none ≡ is_terminating_items w p b (end w q) (suc q)
   list-rule build f answered t x = case-found (find_last (non_empty w) (list w q))
       (λ s e.
       let k : Last w (suc q) (end w q) s = rw e at last_of in

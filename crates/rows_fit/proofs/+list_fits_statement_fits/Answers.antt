@@ -2,7 +2,7 @@ use mathlib.Core.Path.{◌≡◌, refl, sym, ◌∙◌, ap}
 use mathlib.Core.Bool.{true}
 use mathlib.Core.List.{List}
 use mathlib.Core.Logic.{inl, inr}
-use Prim.Native.Nat.{ℕ, ◌+◌, ◌≤◌}
+use Prim.Native.Nat.{ℕ, ◌+◌, ◌≤◌, ◌<◌}
 use native.Mathlib.Omega.{arith}
 use borrow.Author.Tests.{not-true, eqb-true, leb-true}
 use Rattle.rules.specs.Rows.{size}
@@ -18,7 +18,7 @@ use Rattle.rows_fit.proofs.Clauses.{count-first, counts-none, counts-few, Turned
 use Rattle.rows_fit.proofs.Going.{Statement-at, goes_through, Turn, row-known, list-call, past-list, past_row}
 use Rattle.rows_fit.proofs.+list_fits_statement_fits.Goals as goal
 use Rattle.rows_fit.proofs.+list_fits_statement_fits.Goals.{list_fits-then-items-eq0, list_fits-else-items-eq0}
-use Rattle.rows_fit.proofs.+list_fits_statement_fits.Goals.{list_fits-Joined-items-eq0, list_fits-Else-end-c, statement_fits-Else-not-row_allowed}
+use Rattle.rows_fit.proofs.+list_fits_statement_fits.Goals.{list_fits-Joined-items-eq0, statement_fits-Else-not-row_allowed}
 
 -- ---- a list
 
@@ -45,18 +45,10 @@ past-run c =
           (x.0, x.1, inr (w.if-items-eq0.false, w.c-is, w.defaults-is ∙ ap (λ (k : ℕ). c.loop-c.defaults + k) w.count_default-defaults.ensures))
     ]
 
--- what is known of the item before it is walked
-item_known : {t : ℕ} (c : list_fits-Else-end-c t)
-    → Item_at c.args.rows.now (some_pairs c.args.pair_count) c.args.row.0 c.size.result c.args.depth c.if-items-eq0.c c.size-size.result
-item_known {t} c =
-    record {
-      list = list_known c.requires c.size.ensures;
-      listed = (past-run (goal.at.list_fits-statement_fits-requires t c).Joined-items-eq0).1;
-      left = c.if-c-end.true;
-      size_is = c.size-size.ensures;
-      some_rows = omega arith;
-      within = omega arith;
-    }
+-- what is known of an item before it is walked
+item_known : {w p : List ℕ} {r s d c n : ℕ} → List-at w r s d → Listed w p r (r + s) c → c < r + s → n ≡ size w c → 0 < n → c + n ≤ r + s
+    → Item_at w p r s d c n
+item_known a o l e m h = record { list = a; listed = o; left = l; size_is = e; some_rows = m; within = h }
 
 pub list_fits-returns-then-depth-gt99 : goal.list_fits-returns-then-depth-gt99
 list_fits-returns-then-depth-gt99 t c y p e = no_items _ p _ c.size.ensures c.requires.2 (eqb-true _ _ y)
@@ -69,21 +61,24 @@ list_fits-overflow_add-defaults t c =
     omega (arith, (c.loop-c.invariant.1 _ refl).few, c.count_default-defaults.ensures, counts-few c.args.rows.now c.loop-c.c)
 
 pub list_fits-statement_fits-requires : goal.list_fits-statement_fits-requires
-list_fits-statement_fits-requires t c = item-call (item_known c) (omega arith) c.decreases
+list_fits-statement_fits-requires t c =
+    let o = past-run (goal.at.list_fits-statement_fits-requires t c).Joined-items-eq0 in
+    let i = item_known (list_known c.requires c.size.ensures) o.1 c.if-c-end.true c.size-size.ensures (omega arith) (omega arith) in
+    item-call i (omega arith) c.decreases
 
 pub list_fits-loop-c-smaller-then-c-end : goal.list_fits-loop-c-smaller-then-c-end
 list_fits-loop-c-smaller-then-c-end t c =
-    let k = goal.at.list_fits-loop-c-smaller-then-c-end t c in
-    omega (arith, (past-run k.Joined-items-eq0).0)
+    let o = past-run (goal.at.list_fits-loop-c-smaller-then-c-end t c).Joined-items-eq0 in
+    omega (arith, o.0)
 
 pub list_fits-loop-c-preserved-then-c-end : goal.list_fits-loop-c-preserved-then-c-end
 list_fits-loop-c-preserved-then-c-end t c =
-    let k = goal.at.list_fits-loop-c-preserved-then-c-end t c in
-    let i = item_known k.Else-end-c in
+    let o = past-run (goal.at.list_fits-loop-c-preserved-then-c-end t c).Joined-items-eq0 in
+    let i = item_known (list_known c.requires c.size.ensures) o.1 c.if-c-end.true c.size-size.ensures (omega arith) (omega arith) in
     let u = c.statement_fits.ensures c.if-not-statement_fits.false (some_pairs _) (so-many _) in (
       from_first (past-item i c.requires.3 c.kind.ensures c.may_be_item.ensures c.if-not-may_be_item.false u),
-      count-first (counts_past (c.loop-c.invariant.1 _ refl) (past-run k.Joined-items-eq0).2 (omega (arith, i.left, i.list.size_is))
-          (good-row _ _ _ u.0.allowed).detailed i.size_is i.some_rows),
+      count-first (counts_past (c.loop-c.invariant.1 _ refl) o.2 (omega (arith, i.left, i.list.size_is)) (good-row _ _ _ u.0.allowed).detailed
+          i.size_is i.some_rows),
     )
 
 pub list_fits-loop-c-preserved : goal.list_fits-loop-c-preserved

@@ -20,7 +20,7 @@ loop-c-preserved c =
     next c.args.rows.now (held c.args.holding) c.args.row.0 c.size.ensures c.loop-c.invariant c.loop-c-test.true
     (may c.args.rows.now (held c.args.holding) c.loop-c.i c.loop-c.c (c.requires.2 c.loop-c.c (omega arith)) c.kind.ensures
     c.may_hold.ensures ∙ c.if-not-may_hold.false)
-    (c.requires.1.some_rows c.loop-c.c (omega arith)) c.size-c.ensures c.if-end-c.false
+    (c.requires.1.some_rows c.loop-c.c (omega arith)) c.size-c.ensures (omega arith)
 
 pub returns : goal.returns
 returns c =
