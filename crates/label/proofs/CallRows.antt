@@ -17,7 +17,6 @@ use Rattle.rules.specs.Calls.{Answer, refused, answered, fault_words, written, t
 use Rattle.rules.proofs.Lent.{short-sheet, short-bindings, room, is-written}
 use Rattle.rules.proofs.LabelCall.{label-refused, label-short, label-written}
 use Rattle.walk_state.proofs.WalkFaults.{words-length}
-use Rattle.walk_state.proofs.WalkBindings.{bindings_zero}
 use Rattle.label_body.specs.Answered.{Blank, Answered}
 use Rattle.label_body.proofs.BodyRows.{bindings-by-row}
 use Rattle.label.specs.Cleared.{NoName, Cleared}

@@ -1,6 +1,6 @@
 -- 2 more than a row that is small enough fits a word.
 -- Assumes nothing.
-use mathlib.Core.Path.{◌≡◌, sym, ap}
+use mathlib.Core.Path.{ap}
 use native.Mathlib.Omega.{arith}
 use Rattle.rules.specs.Walking.{place_word}
 use Rattle.runner.specs.Given.{state_of}

@@ -4,7 +4,6 @@ use mathlib.Core.Path.{refl, sym, ◌∙◌, ap}
 use Rattle.label.specs.Given.{given}
 use Rattle.exports.specs.Told.{told_count}
 use Rattle.exports.proofs.Telling.{tells}
-use borrow.Author.Rules.{rules}
 use Rattle.exports.proofs.zesthull_labels.Goals as goal
 
 pub returns-in-Refused : goal.returns-in-Refused

@@ -3,7 +3,6 @@
 use mathlib.Core.Path.{refl, sym, ◌∙◌, ap}
 use Rattle.marking.specs.Marks.{given}
 use Rattle.exports.proofs.Telling.{marks-small, tells-marks}
-use borrow.Author.Rules.{rules}
 use Rattle.exports.proofs.zesthull_marks.Goals as goal
 
 pub placed_word-requires : goal.placed_word-requires

@@ -3,7 +3,6 @@
 use mathlib.Core.Path.{◌≡◌, sym, ◌∙◌, ap}
 use Prim.Native.Nat.{ℕ}
 use Rattle.exports.proofs.Telling.{told-refused, told-zero, told-past, told-pair}
-use borrow.Author.Rules.{rules}
 use Rattle.exports.proofs.zesthull_name.Goals as goal
 
 abbrev first : ℕ × ℕ → ℕ

@@ -1,12 +1,11 @@
 -- The placing call's answer, told as two numbers. The row badly placed is one of at most 2,000.
 -- Assumes nothing.
-use mathlib.Core.Path.{◌≡◌, refl, sym, ◌∙◌, ap}
+use mathlib.Core.Path.{refl, sym, ◌∙◌, ap}
 use native.Mathlib.Omega.{arith}
 use native.Mathlib.Numerals.{add-one}
 use Rattle.placing.specs.Given.{given}
 use Rattle.exports.specs.Told.{told_placing}
 use Rattle.exports.proofs.Telling.{tells, small_row}
-use borrow.Author.Rules.{rules}
 use Rattle.exports.proofs.zesthull_placing.Goals as goal
 
 pub overflow_add-value : goal.overflow_add-value

@@ -4,7 +4,6 @@ use mathlib.Core.Path.{refl, sym, ◌∙◌, ap}
 use Rattle.body.specs.Given.{given}
 use Rattle.exports.specs.Told.{told_refusal}
 use Rattle.exports.proofs.Telling.{tells}
-use borrow.Author.Rules.{rules}
 use Rattle.exports.proofs.zesthull_refusal.Goals as goal
 
 pub returns-in-Refused : goal.returns-in-Refused

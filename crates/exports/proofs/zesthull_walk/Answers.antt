@@ -3,7 +3,6 @@
 use mathlib.Core.Path.{refl, sym, ◌∙◌, ap}
 use Rattle.runner.specs.Given.{given}
 use Rattle.exports.proofs.Telling.{walk-small, tells-walk}
-use borrow.Author.Rules.{rules}
 use Rattle.exports.proofs.zesthull_walk.Goals as goal
 
 pub place_word-requires : goal.place_word-requires

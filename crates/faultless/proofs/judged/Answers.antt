@@ -5,7 +5,6 @@ use Rattle.rules.proofs.Facts.{body}
 use Rattle.names.specs.Place.{place}
 use Rattle.label.specs.Given.{given}
 use Rattle.faultless.proofs.Judging.{judged-refused, judged-faults, judged-placing}
-use borrow.Author.Rules.{rules}
 use Rattle.faultless.proofs.judged.Goals as goal
 
 pub returns-then-faults-ne0 : goal.returns-then-faults-ne0

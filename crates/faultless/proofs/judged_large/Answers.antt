@@ -2,7 +2,6 @@
 -- Assumes nothing.
 use native.Mathlib.Omega.{arith}
 use Rattle.rules.proofs.Facts.{body}
-use borrow.Author.Rules.{rules}
 use Rattle.faultless.proofs.judged_large.Goals as goal
 
 pub judged-requires : goal.judged-requires

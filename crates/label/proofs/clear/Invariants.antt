@@ -1,11 +1,8 @@
 -- The loop's invariant: the words before k are 0, those from `count` on as they were lent. The measure is the words that are left.
 -- Assumes nothing.
-use mathlib.Core.Path.{◌≡◌, refl}
+use mathlib.Core.Path.{◌≡◌}
 use Prim.Native.Nat.{ℕ, ◌-◌, ◌≤◌, ◌<◌}
-use native.Mathlib.Omega.{arith}
 use lib.ListN.{length, get_or, drop}
-use borrow.Author.Rules.{rules}
-use Rattle.label.proofs.CallRows.{cleared_more}
 use Rattle.label.proofs.clear.Given as goal
 
 abbrev pub invariant-loop-k : goal.invariant-loop-k

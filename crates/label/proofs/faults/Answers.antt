@@ -4,7 +4,6 @@
 use native.Mathlib.Omega.{arith}
 use Rattle.label.proofs.NamelessRows.{no_pairs}
 use Rattle.label.proofs.CallRows.{nameless-answered, cleared-blank, answered-from}
-use borrow.Author.Rules.{rules}
 use Rattle.label.proofs.faults.Goals as goal
 
 pub returns-then-pairs-lt2 : goal.returns-then-pairs-lt2

@@ -3,7 +3,6 @@
 use mathlib.Core.Path.{◌≡◌, sym, ◌∙◌, ap}
 use mathlib.Core.Option.{Option, none, some}
 use Prim.Native.Nat.{ℕ}
-use borrow.Author.Rules.{rules}
 use Rattle.refusals.specs.Returned.{returned}
 use Rattle.body.specs.Given.{given as checked}
 use Rattle.refusals.specs.declared.Refusal.{Refusal}

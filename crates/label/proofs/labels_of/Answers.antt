@@ -1,7 +1,6 @@
 -- The two lengths are tested, and `faults` writes both.
 -- Assumes nothing.
 use mathlib.Core.Path.{sym}
-use borrow.Author.Rules.{rules}
 use Rattle.rules.proofs.Facts.{body}
 use Rattle.label.proofs.CallRows.{call-short-sheet, call-short-bindings, call-answered}
 use Rattle.label.proofs.labels_of.Goals as goal

@@ -1,8 +1,5 @@
-use mathlib.Core.Path.{◌≡◌, sym, ◌∙◌}
-use Prim.Native.Nat.{ℕ, ◌-◌, ◌≤◌, ◌<◌}
+use mathlib.Core.Path.{sym, ◌∙◌}
 use native.Mathlib.Omega.{arith}
-use borrow.Author.Rules.{rules}
-use Rattle.rules.specs.Rows.{row_count, name}
 use Rattle.rules.proofs.Test.{clash}
 use Rattle.label.proofs.CallRows.{nameless-more}
 use Rattle.label.proofs.no_names.Goals as goal

@@ -1,12 +1,8 @@
 -- The loop's invariant: no row before r has a name. The measure is the rows that are left.
 -- Assumes nothing.
-use mathlib.Core.Path.{◌≡◌, sym, ◌∙◌}
+use mathlib.Core.Path.{◌≡◌}
 use Prim.Native.Nat.{ℕ, ◌-◌, ◌≤◌, ◌<◌}
-use native.Mathlib.Omega.{arith}
-use borrow.Author.Rules.{rules}
 use Rattle.rules.specs.Rows.{row_count, name}
-use Rattle.rules.proofs.Test.{clash}
-use Rattle.label.proofs.CallRows.{nameless-more}
 use Rattle.label.proofs.no_names.Given as goal
 
 abbrev pub invariant-loop-r : goal.invariant-loop-r

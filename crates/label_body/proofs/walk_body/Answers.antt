@@ -1,7 +1,6 @@
 -- The walk begins at row 0 with nothing reported, bound or pending, and ends at the last row. What is pending then, and the labels that nothing used, complete
 -- the sheet.
 -- Assumes nothing.
-use mathlib.Core.Path.{◌∙◌}
 use Rattle.label_body.proofs.BodyRows.{walk-requires, walked_end, tables-room, unused-start, walked-answered}
 use Rattle.label_body.proofs.walk_body.Goals as goal
 

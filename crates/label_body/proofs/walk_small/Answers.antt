@@ -1,7 +1,6 @@
 -- Tables of 0 with room for 31 names and 128 rows serve a body that has no more.
 -- Assumes nothing.
 use Rattle.label_body.proofs.BodyRows.{lent-zeros}
-use borrow.Author.Rules.{rules}
 use Rattle.label_body.proofs.walk_small.Goals as goal
 
 pub walk_body-requires : goal.walk_body-requires

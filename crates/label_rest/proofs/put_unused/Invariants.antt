@@ -1,11 +1,8 @@
 -- The loop's invariant: the faults of the first j names are on the sheet. The measure is the names that are left.
 -- Assumes nothing.
 use Prim.Native.Nat.{◌-◌}
-use native.Mathlib.Omega.{arith}
 use lib.ListN.{length}
-use borrow.Author.Rules.{rules}
-use Rattle.label_rest.proofs.UnusedRows.{Nines, AtName, nines-start, nines-all, name-within-table, some_word, label-row, fault-fits, fault-small}
-use Rattle.label_rest.proofs.UnusedRows.{turn}
+use Rattle.label_rest.proofs.UnusedRows.{Nines}
 use Rattle.label_rest.proofs.put_unused.Given as goal
 
 abbrev pub invariant-loop-j : goal.invariant-loop-j

@@ -1,11 +1,5 @@
-use mathlib.Core.Path.{◌≡◌, refl, sym, ◌∙◌}
-use mathlib.Core.Logic.{⊎_elim}
-use Prim.Native.Nat.{◌-◌, ◌≤◌}
+use mathlib.Core.Path.{refl, sym, ◌∙◌}
 use native.Mathlib.Omega.{arith}
-use lib.ListN.{length}
-use borrow.Author.Rules.{rules}
-use Rattle.rules.specs.Rows.{row_count}
-use Rattle.label_rest.specs.Left.{LeftOver}
 use Rattle.label_rest.proofs.LeftRows.{over-other}
 use Rattle.label_rest.proofs.LeftTurns.{over-start, word_read, turn, over-end, over-reported, over-used}
 use Rattle.label_rest.proofs.unresolved.Goals as goal

@@ -1,16 +1,11 @@
 -- The loop's invariant: the state of the pass at row r, from the sheet at entry, and the table's length. The measure is the rows that are left. Each
 -- turn is one law.
 -- Assumes nothing.
-use mathlib.Core.Path.{◌≡◌, refl, sym, ◌∙◌}
-use mathlib.Core.Logic.{⊎_elim}
+use mathlib.Core.Path.{◌≡◌}
 use Prim.Native.Nat.{◌-◌, ◌≤◌}
-use native.Mathlib.Omega.{arith}
 use lib.ListN.{length}
-use borrow.Author.Rules.{rules}
 use Rattle.rules.specs.Rows.{row_count}
 use Rattle.label_rest.specs.Left.{LeftOver}
-use Rattle.label_rest.proofs.LeftRows.{over-other}
-use Rattle.label_rest.proofs.LeftTurns.{over-start, word_read, turn, over-end, over-reported, over-used}
 use Rattle.label_rest.proofs.unresolved.Given as goal
 
 abbrev pub invariant-loop-r : goal.invariant-loop-r

@@ -1,9 +1,6 @@
-use mathlib.Core.Logic.{⊎_elim}
-use Prim.Native.Nat.{◌+◌, ◌-◌}
 use native.Mathlib.Omega.{arith}
-use Rattle.rules.specs.Names.{count_of_pairs}
 use Rattle.label_rest.proofs.LeftRows.{pair-most}
-use Rattle.label_rest.proofs.UnusedNames.{Collected, collected-start, collected-end, turn-none, turn-used, turn-unused}
+use Rattle.label_rest.proofs.UnusedNames.{collected-start, collected-end, turn-none, turn-used, turn-unused}
 use Rattle.label_rest.proofs.unused_names.Goals as goal
 use Rattle.label_rest.proofs.unused_names.Goals.{then-label_rows-c-ne0+then-used-c-eq0, then-label_rows-c-ne0+else-used-c-eq0, else-label_rows-c-ne0}
 

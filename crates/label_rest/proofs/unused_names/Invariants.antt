@@ -1,12 +1,9 @@
 -- The loop's invariant: the unused labels' numbers below c are collected. The measure is the numbers that are left. Each turn is one law, by whether
 -- there is a label, and whether it is used.
 -- Assumes nothing.
-use mathlib.Core.Logic.{⊎_elim}
 use Prim.Native.Nat.{◌+◌, ◌-◌}
-use native.Mathlib.Omega.{arith}
 use Rattle.rules.specs.Names.{count_of_pairs}
-use Rattle.label_rest.proofs.LeftRows.{pair-most}
-use Rattle.label_rest.proofs.UnusedNames.{Collected, collected-start, collected-end, turn-none, turn-used, turn-unused}
+use Rattle.label_rest.proofs.UnusedNames.{Collected}
 use Rattle.label_rest.proofs.unused_names.Given as goal
 
 abbrev pub invariant-loop-c : goal.invariant-loop-c

@@ -2,7 +2,6 @@
 -- Assumes nothing.
 use mathlib.Core.Path.{refl, sym, ◌∙◌}
 use native.Mathlib.Omega.{arith}
-use borrow.Author.Rules.{rules}
 use Rattle.label_walk.proofs.TableSteps.{outside, block-list, unlabelled-block, label-row, label-fits, ended, current}
 use Rattle.label_walk.proofs.current_label.Goals as goal
 

@@ -1,7 +1,6 @@
 -- The row is the latest declaration of its list, which is a row before it: `declared` puts it into the list's context.
 -- Assumes nothing.
 use native.Mathlib.Omega.{arith}
-use borrow.Author.Rules.{rules}
 use Rattle.label_walk.proofs.TableSteps.{declared-list, declared-fits, declared}
 use Rattle.label_walk.proofs.decl_branches.Goals as goal
 

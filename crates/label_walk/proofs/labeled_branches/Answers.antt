@@ -2,7 +2,6 @@
 -- list's context and leaves the latest declaration there, which `label_branches` gets.
 -- Assumes nothing.
 use native.Mathlib.Omega.{arith}
-use borrow.Author.Rules.{rules}
 use Rattle.walk_state.proofs.TableRows.{canon-place}
 use Rattle.label_walk.proofs.TableSteps.{blank, unlabelled, labels, label-list, labelled-fits, label-latest, labelled}
 use Rattle.label_walk.proofs.WalkSteps.{labeled-passed}

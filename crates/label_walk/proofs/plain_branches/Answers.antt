@@ -1,6 +1,5 @@
 -- Each way through the code is one law of PlainRows.antt.
 -- Assumes nothing.
-use borrow.Author.Rules.{rules}
 use Rattle.label_walk.proofs.PlainRows.{declared-asks, declared-gives, undeclared-gives, block-asks, block-gives, other-gives}
 use Rattle.label_walk.proofs.plain_branches.Goals as goal
 

@@ -1,12 +1,8 @@
-use mathlib.Core.Path.{◌≡◌, refl}
-use Prim.Native.Nat.{◌-◌}
+use mathlib.Core.Path.{refl}
 use native.Mathlib.Omega.{arith}
-use lib.ListN.{length}
-use Rattle.rules.specs.Rows.{row_count}
-use Rattle.lists.specs.Listed.{InHand, ListedBelow}
 use Rattle.lists.proofs.Opened.{open-found, open_none, ends-none}
 use Rattle.label_walk.proofs.ListRows.{lists-next, tables-next}
-use Rattle.label_walk.proofs.WalkSteps.{Turn, turn-first, turn-next, turn_last}
+use Rattle.label_walk.proofs.WalkSteps.{turn-first, turn-next, turn_last}
 use Rattle.label_walk.proofs.rows_branches.Goals as goal
 
 pub loop-r-init : goal.loop-r-init

@@ -1,14 +1,11 @@
 -- The loop's invariant: the state of the walk at row r, the list in hand, and the lists of the rows before r. The measure is the rows that are left.
 -- Assumes nothing.
-use mathlib.Core.Path.{◌≡◌, refl}
+use mathlib.Core.Path.{◌≡◌}
 use Prim.Native.Nat.{◌-◌}
-use native.Mathlib.Omega.{arith}
 use lib.ListN.{length}
 use Rattle.rules.specs.Rows.{row_count}
 use Rattle.lists.specs.Listed.{InHand, ListedBelow}
-use Rattle.lists.proofs.Opened.{open-found, open_none, ends-none}
-use Rattle.label_walk.proofs.ListRows.{lists-next, tables-next}
-use Rattle.label_walk.proofs.WalkSteps.{Turn, turn-first, turn-next, turn_last}
+use Rattle.label_walk.proofs.WalkSteps.{Turn}
 use Rattle.label_walk.proofs.rows_branches.Given as goal
 
 abbrev pub invariant-loop-r : goal.invariant-loop-r

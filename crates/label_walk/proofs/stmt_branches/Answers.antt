@@ -1,6 +1,5 @@
 -- Each arm is one law of RowSteps.antt: what its call asks, and what the row leaves. A label and a branch hold no items, so the list in hand stays.
 -- Assumes nothing.
-use mathlib.Core.Path.{refl}
 use mathlib.Core.Logic.{inl, inr}
 use native.Mathlib.Omega.{arith}
 use Rattle.label_walk.proofs.RowSteps.{labeled-asks, labeled-gives, branch-asks, branch-gives, passes, plain-asks, plain-gives}

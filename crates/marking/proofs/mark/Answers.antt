@@ -3,7 +3,6 @@
 use mathlib.Core.Path.{sym, ◌∙◌, ap}
 use Rattle.body.specs.Given.{given}
 use Rattle.marking.proofs.Together.{refusal-marked}
-use borrow.Author.Rules.{rules}
 use Rattle.marking.proofs.mark.Goals as goal
 
 pub marks_of-requires : goal.marks_of-requires

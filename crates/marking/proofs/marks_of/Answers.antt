@@ -5,7 +5,6 @@ use Rattle.rules.proofs.Facts.{body}
 use Rattle.breaks.proofs.Ranges.{label-of-first}
 use Rattle.label.specs.Given.{given}
 use Rattle.marking.proofs.Together.{marks-refused, marks-answered}
-use borrow.Author.Rules.{rules}
 use Rattle.marking.proofs.marks_of.Goals as goal
 
 pub placed-placed-requires : goal.placed-placed-requires
