@@ -23,11 +23,11 @@ returns-in-Refused c =
 pub returns-in-At : goal.returns-in-At
 returns-in-At c =
     let e = c.labels_of.ensures in
-    judged-placing _ _ _ _ _ _ c.requires.well_formed c.requires.rows_in_bounds.0 c.requires.rows_in_bounds.1 e.bindings _ (sym (ap given c.in-Faults.is) ∙ e.answer) c.if-faults-ne0.false _
-    (sym (ap place c.in-At.is) ∙ c.placed.ensures)
+    judged-placing _ _ _ _ _ _ c.requires.well_formed c.requires.rows_in_bounds.0 c.requires.rows_in_bounds.1 e.bindings _ (sym (ap given c.in-Faults.is) ∙ e.answer)
+    c.if-faults-ne0.false _ (sym (ap place c.in-At.is) ∙ c.placed.ensures)
 
 pub returns-in-Nowhere : goal.returns-in-Nowhere
 returns-in-Nowhere c =
     let e = c.labels_of.ensures in
-    judged-placing _ _ _ _ _ _ c.requires.well_formed c.requires.rows_in_bounds.0 c.requires.rows_in_bounds.1 e.bindings _ (sym (ap given c.in-Faults.is) ∙ e.answer) c.if-faults-ne0.false _
-    (sym (ap place c.in-Nowhere.is) ∙ c.placed.ensures)
+    judged-placing _ _ _ _ _ _ c.requires.well_formed c.requires.rows_in_bounds.0 c.requires.rows_in_bounds.1 e.bindings _ (sym (ap given c.in-Faults.is) ∙ e.answer)
+    c.if-faults-ne0.false _ (sym (ap place c.in-Nowhere.is) ∙ c.placed.ensures)

@@ -4,13 +4,14 @@ use Prim.Native.Nat.{◌<◌}
 use native.Mathlib.Omega.{arith}
 use lib.ListN.{length as length_of}
 use borrow.Author.Rules.{rules}
-use borrow.Author.Tests.{not-true}
+use borrow.Author.Tests.{not-true, not-false}
 use Rattle.input.specs.Reads.{uncounted}
 use Rattle.input.proofs.Lengths.{not_last, left_to_count, less-left}
+use Rattle.filter.proofs.Whole.{begun, one_more, counted}
 use Rattle.filter.proofs.whole_length.Goals as goal
 
 pub loop-input-init : goal.loop-input-init
-loop-input-init g c = (search rules, c.requires)
+loop-input-init g c = (search rules, c.requires, λ p. begun _ _ _ p)
 
 pub read_on-input-requires : goal.read_on-input-requires
 read_on-input-requires g c = (
@@ -27,4 +28,8 @@ pub loop-input-preserved : goal.loop-input-preserved
 loop-input-preserved g c = (
   omega arith,
   λ e. rw c.read_on-input.ensures.length (not_last _ _ (sym c.read_on-input.ensures.ended ∙ e)),
+  λ p. one_more _ _ _ _ _ _ c.in_ok-got.got 65536 _ _ _ (c.loop-input.invariant.2 p) c.in_ok-got.ensures.bytes c.in_ok-got.ensures.bound.1 (λ h. c.in_ok-got.ensures.end (omega arith)) c.read_on-input.ensures.length c.read_on-input.ensures.ended,
 )
+
+pub returns : goal.returns
+returns g c = λ p. counted _ _ _ _ _ (c.loop-input.invariant.2 p) (not-false _ c.loop-input-test.false)
