@@ -2,7 +2,7 @@
 -- it ended at 2^37 bytes. And that the first bytes and the count give what `marks` prints for the file: an input past the count is refused whatever its length.
 -- Assumes nothing.
 use mathlib.Core.Path.{◌≡◌, refl, sym, ◌∙◌, ap, subst}
-use mathlib.Core.Bool.{Bool, true, false}
+use mathlib.Core.Bool.{Bool, true}
 use mathlib.Core.Logic.{◌⊎◌, inl, inr}
 use mathlib.Core.List.{List, [], ◌++◌, append-nil}
 use Prim.Native.Nat.{ℕ, ◌+◌, ◌≤◌, ◌<◌}
@@ -13,7 +13,7 @@ use lib.Seq.{take_all, take_at}
 use borrow.Author.Tests.{ltb-true}
 use Rattle.std.proofs.Common.{Option, Some, None, IfSome, Result, Ok, Err, OnOk}
 use Rattle.std.specs.Io.KnownBytes.{Consumes, Appends, IsAtEnd}
-use Rattle.input.specs.Reads.{uncounted, Read, is_last}
+use Rattle.input.specs.Reads.{uncounted, is_last}
 use Rattle.input.proofs.Lengths.{last-counted}
 use Rattle.report.specs.Text.{marks_text}
 use Rattle.report.specs.Start.{start_text}

@@ -4,22 +4,19 @@
 use mathlib.Core.Path.{◌≡◌, refl}
 use mathlib.Core.Bool.{Bool, true, false, ◌&&◌}
 use mathlib.Core.List.{List}
-use mathlib.Core.Option.{none, some}
-use Prim.Native.Nat.{ℕ, zero, suc, ◌≤◌, ◌<◌}
+use mathlib.Core.Option.{some}
+use Prim.Native.Nat.{ℕ, ◌≤◌, ◌<◌}
 use native.Mathlib.Omega.{arith}
 use lib.Dec.{ltb, eqb}
 use borrow.Author.Tests.{lt-ltb, ltb-true, eqb-true, eq-eqb}
-use Rattle.rules.specs.Scan.{lowest, how_many}
+use Rattle.rules.specs.Scan.{how_many}
 use Rattle.rules.specs.Rows.{row_count, end, parent, same_parent, Child}
-use Rattle.rules.specs.Class.{Class, is_default, base, following, class}
-use Rattle.rules.specs.Refusals.{bad_shape, second_default}
-use Rattle.rules.specs.Body.{Sized, Detailed, fits, SecondChild, OneDefault}
-use Rattle.rules.proofs.Test.{case-of, case-found, clash, and-true, true-and}
-use Rattle.rules.proofs.Scan.{some-counted, counted-some, lowest-none}
-use Rattle.rules.proofs.Every.{every, implies, implied, of-classes}
-use Rattle.rules.proofs.Nesting.{item-before, child_parent, parent_child}
-use Rattle.rules.proofs.Shape.{child_within, child_fits}
-use Rattle.rules.proofs.ClassRules.{is_clause_block, parent-rule}
+use Rattle.rules.specs.Class.{is_default, base}
+use Rattle.rules.specs.Refusals.{second_default}
+use Rattle.rules.specs.Body.{Sized, SecondChild}
+use Rattle.rules.proofs.Test.{case-found, clash, and-true, true-and}
+use Rattle.rules.proofs.Scan.{some-counted, counted-some}
+use Rattle.rules.proofs.Nesting.{child_parent, parent_child}
 
 -- ---- the same parent
 module _ (w : List ℕ) (q r : ℕ) where

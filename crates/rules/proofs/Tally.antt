@@ -10,7 +10,7 @@ use Prim.Native.Nat.{ℕ, zero, suc, ◌+◌, ◌*◌, ◌≤◌, ◌<◌}
 use native.Mathlib.Omega.{arith}
 use native.Mathlib.Decide.{dec_lt, ℕ_discrete}
 use lib.Dec.{ltb}
-use lib.ListN.{length, drop, get_or, get_or-append}
+use lib.ListN.{length, get_or, get_or-append}
 use borrow.Author.Tests.{lt-ltb}
 use Rattle.rules.specs.Scan.{how_many}
 use Rattle.rules.specs.Rows.{row_count, name}
@@ -20,13 +20,12 @@ use Rattle.rules.specs.Refusals.{WellFormed}
 use Rattle.rules.specs.Body.{Body}
 use Rattle.rules.specs.Labels.{Fault, each, only, fault, word, is_label, declared, latest_declaration, pending, valid_target, labelled_break, binding}
 use Rattle.rules.specs.Labels.{jumps_over, repeated, report, unresolved, used, declared_at, unused, sheet, bindings}
-use Rattle.rules.specs.Calls.{fault_words, label_call}
-use Rattle.rules.specs.Tally.{is_branch_row, labelled_branches, bound_branches, is_unbound, unbound_rows, unbound_words, TallyLaw, CallTally}
+use Rattle.rules.specs.Calls.{fault_words}
+use Rattle.rules.specs.Tally.{is_branch_row, labelled_branches, bound_branches, is_unbound, unbound_rows, unbound_words, TallyLaw}
 use Rattle.rules.proofs.Test.{case-of, case-found, clash}
 use Rattle.rules.proofs.Scan.{how_many-yes, how_many-no, how_many-same}
 use Rattle.rules.proofs.Each.{each-zero, each-suc, each-length, each_at}
 use Rattle.rules.proofs.Facts as facts
-use Rattle.rules.proofs.LabelCall.{Counted, label-counted}
 use Rattle.rules.proofs.ClassTests.{by-branch, by-break, break-branch, branch-goto, branch-fallthrough}
 use Rattle.rules.proofs.Lists.{branch-kind}
 use Rattle.rules.proofs.RowNames.{goto-named}

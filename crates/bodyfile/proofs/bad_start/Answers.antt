@@ -2,7 +2,6 @@
 -- Assumes nothing.
 use Rattle.bodyfile.proofs.Header.{start-short, start-length}
 use native.Mathlib.Omega.{arith}
-use borrow.Author.Rules.{rules}
 use Rattle.bodyfile.proofs.bad_start.Goals as goal
 
 pub returns-then-file-lt12 : goal.returns-then-file-lt12

@@ -2,7 +2,6 @@
 -- Assumes nothing.
 use native.Mathlib.Omega.{arith}
 use Rattle.bodyfile.proofs.Header.{refuses-no-rows, refuses-rows, refuses-names, refuses-bytes, refuses-none}
-use borrow.Author.Rules.{rules}
 use Rattle.bodyfile.proofs.count_refusal.Goals as goal
 
 pub returns-then-rows-eq0 : goal.returns-then-rows-eq0

@@ -1,16 +1,9 @@
 -- The loop's invariant: the first k words of `out` are the first k words of the file from `from` on. The measure is what is left of `out`.
 -- Assumes nothing.
-use mathlib.Core.Path.{◌≡◌, refl, sym, ◌∙◌, ap}
-use mathlib.Core.List.{List, [], ◌∷◌, ◌++◌}
-use Prim.Native.Nat.{ℕ, ◌+◌, ◌*◌, ◌-◌, ◌≤◌, ◌<◌}
-use native.Mathlib.Numerals.{add-one}
-use native.Mathlib.Omega.{arith}
-use lib.ListN.{length, take, set, length-set}
-use lib.Seq.{take-suc-set, take-length}
-use borrow.Author.Rules.{rules}
-use Rattle.rules.specs.Labels.{each}
-use Rattle.rules.proofs.Each.{each-zero, each-suc}
-use Rattle.bodyfile.specs.File.{word, words}
+use mathlib.Core.Path.{◌≡◌}
+use Prim.Native.Nat.{◌-◌, ◌≤◌}
+use lib.ListN.{length, take}
+use Rattle.bodyfile.specs.File.{words}
 use Rattle.bodyfile.proofs.words.Given as goal
 
 abbrev pub invariant-loop-k : goal.invariant-loop-k

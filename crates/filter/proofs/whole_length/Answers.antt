@@ -1,12 +1,9 @@
-use mathlib.Core.Path.{◌≡◌, sym, ◌∙◌}
+use mathlib.Core.Path.{sym, ◌∙◌}
 use mathlib.Core.Bool.{false}
-use Prim.Native.Nat.{◌<◌}
 use native.Mathlib.Omega.{arith}
-use lib.ListN.{length as length_of}
 use borrow.Author.Rules.{rules}
 use borrow.Author.Tests.{not-true, not-false}
-use Rattle.input.specs.Reads.{uncounted}
-use Rattle.input.proofs.Lengths.{not_last, left_to_count, less-left}
+use Rattle.input.proofs.Lengths.{not_last, less-left}
 use Rattle.filter.proofs.Whole.{begun, one_more, counted}
 use Rattle.filter.proofs.whole_length.Goals as goal
 

@@ -1,7 +1,6 @@
 -- Past the last count the input has ended, whatever the read gave; below it the read decides.
 -- Assumes nothing.
 use mathlib.Core.Path.{refl}
-use borrow.Author.Rules.{rules}
 use Rattle.input.proofs.Lengths.{last-uncounted, last-counted}
 use Rattle.input.proofs.read_on.Goals as goal
 

@@ -1,4 +1,4 @@
-use Rattle.std.proofs.Common.{◌≡◌, ◌-◌, ◌/◌, length, arith, length-set, rules}
+use Rattle.std.proofs.Common.{◌-◌, arith, length-set}
 use Rattle.name_cases.proofs.fill_names.Goals as goal
 
 pub bounds-bytes-i-in-loop-i : goal.bounds-bytes-i-in-loop-i

@@ -1,6 +1,6 @@
 -- The words keep their length, so both words of a pair below half of it are there. The measure is what is left of the pairs.
 -- Assumes nothing.
-use Rattle.std.proofs.Common.{◌≡◌, ◌-◌, ◌/◌, length, arith, length-set, rules}
+use Rattle.std.proofs.Common.{◌≡◌, ◌-◌, ◌/◌, length}
 use Rattle.name_cases.proofs.fill_pairs.Given as goal
 
 abbrev pub invariant-loop-i : goal.invariant-loop-i

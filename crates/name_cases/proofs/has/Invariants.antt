@@ -1,6 +1,6 @@
 -- Only the index has a bound, which the loop's test gives. The measure is what is left of the numbers.
 -- Assumes nothing.
-use Rattle.std.proofs.Common.{◌-◌, length, rules}
+use Rattle.std.proofs.Common.{◌-◌, length}
 use Rattle.name_cases.proofs.has.Given as goal
 
 abbrev pub invariant-loop-i : goal.invariant-loop-i

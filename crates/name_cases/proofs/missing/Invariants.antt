@@ -1,6 +1,6 @@
 -- The measure is what is left of the count.
 -- Assumes nothing.
-use Rattle.std.proofs.Common.{◌-◌, length, rules}
+use Rattle.std.proofs.Common.{◌-◌, length}
 use Rattle.name_cases.proofs.missing.Given as goal
 
 abbrev pub invariant-loop-i : goal.invariant-loop-i

@@ -1,7 +1,6 @@
 use Prim.Native.Nat.{◌+◌, ◌-◌, ◌*◌}
 use native.Mathlib.Omega.{arith}
-use borrow.Author.Rules.{rules}
-use Rattle.names.proofs.Passed.{Passed, passed_none, passed-all, passed-next, empty-found, early-found, long-found}
+use Rattle.names.proofs.Passed.{passed_none, passed-all, passed-next, empty-found, early-found, long-found}
 use Rattle.names.proofs.first_bad_pair.Goals as goal
 
 pub loop-i-init : goal.loop-i-init

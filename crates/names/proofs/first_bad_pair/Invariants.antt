@@ -1,10 +1,8 @@
 -- `first_bad_pair` meets its contract. The loop's invariant: no pair below i is bad, and the pair before i ends at `previous_end`.
 -- The measure is what is left of the pairs. A sum of two words does not wrap, since each is below 2 ^ 32.
 -- Assumes nothing.
-use Prim.Native.Nat.{◌+◌, ◌-◌, ◌*◌}
-use native.Mathlib.Omega.{arith}
-use borrow.Author.Rules.{rules}
-use Rattle.names.proofs.Passed.{Passed, passed_none, passed-all, passed-next, empty-found, early-found, long-found}
+use Prim.Native.Nat.{◌-◌}
+use Rattle.names.proofs.Passed.{Passed}
 use Rattle.names.proofs.first_bad_pair.Given as goal
 
 abbrev pub invariant-loop-i : goal.invariant-loop-i

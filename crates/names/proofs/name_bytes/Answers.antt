@@ -1,7 +1,6 @@
 -- `name_bytes` meets its contract: the part of the name where causes 2 and 3 are ruled out, and no bytes where they are not.
 -- Assumes nothing.
 use mathlib.Core.Path.{sym, ◌∙◌}
-use borrow.Author.Rules.{rules}
 use Rattle.rules.proofs.Pairs.{refused-names}
 use Rattle.names.proofs.name_bytes.Goals as goal
 

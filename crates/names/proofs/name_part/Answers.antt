@@ -3,7 +3,6 @@
 -- Assumes nothing.
 use mathlib.Core.Path.{sym}
 use native.Mathlib.Omega.{arith}
-use borrow.Author.Rules.{rules}
 use Rattle.rules.proofs.Pairs.{no_name, past-names}
 use Rattle.names.proofs.Parts.{part-within, part-name}
 use Rattle.names.proofs.name_part.Goals as goal

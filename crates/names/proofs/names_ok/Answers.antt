@@ -1,7 +1,6 @@
 -- `names_ok` meets its contract: the definition's two tests, in its order; each arm is told what the search returned.
 -- Assumes nothing.
 use mathlib.Core.Path.{sym, ap, ◌∙◌}
-use borrow.Author.Rules.{rules}
 use Rattle.rules.proofs.Pairs.{names-ok, bad-words, bad-pairs}
 use Rattle.names.specs.Place.{place}
 use Rattle.names.proofs.names_ok.Goals as goal

@@ -1,7 +1,6 @@
 -- `same_name` meets its contract: the two parts are the bytes of the two names, and they are compared.
 -- Assumes nothing.
 use mathlib.Core.Path.{◌∙◌}
-use borrow.Author.Rules.{rules}
 use Rattle.names.proofs.Parts.{same_parts}
 use Rattle.names.proofs.same_name.Goals as goal
 

@@ -8,7 +8,6 @@ use Prim.Native.Nat.{◌/◌}
 use Rattle.report_lines.specs.Text.{refused_text}
 use Rattle.marking.specs.Marks.{given}
 use Rattle.report.proofs.Marked.{enough, refused-text, marked-text, marked-room}
-use borrow.Author.Rules.{rules}
 use Rattle.report.proofs.body_text.Goals as goal
 
 pub slice_bounds-marked_text-end-in-Marked : goal.slice_bounds-marked_text-end-in-Marked

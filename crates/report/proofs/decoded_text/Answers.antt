@@ -5,7 +5,6 @@ use Prim.Native.Nat.{◌*◌}
 use native.Mathlib.Omega.{arith}
 use lib.Seq.{length-take-le}
 use Rattle.report.proofs.Decoded.{words-read, words_count, take-most, parts, rows_fit, pairs-fit}
-use borrow.Author.Rules.{rules}
 use Rattle.report.proofs.decoded_text.Goals as goal
 
 pub slice_bounds-words-end-2 : goal.slice_bounds-words-end-2

@@ -2,7 +2,6 @@
 -- Assumes nothing.
 use native.Mathlib.Omega.{arith}
 use Rattle.report_lines.proofs.Writing.{behind, counts}
-use borrow.Author.Rules.{rules}
 use Rattle.report.proofs.marked_text.Goals as goal
 
 pub returns : goal.returns

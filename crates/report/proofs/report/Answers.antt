@@ -4,7 +4,6 @@ use mathlib.Core.Path.{sym, ◌∙◌}
 use native.Mathlib.Omega.{arith}
 use Rattle.bodyfile.proofs.Header.{start-passes, within}
 use Rattle.report.proofs.Files.{text-bad, text-counts, text-part, text-whole}
-use borrow.Author.Rules.{rules}
 use Rattle.report.proofs.report.Goals as goal
 
 pub returns-then-bad_start : goal.returns-then-bad_start

@@ -6,7 +6,6 @@ use mathlib.Core.Path.{refl}
 use Rattle.report_lines.proofs.Decimals.{number-ends}
 use Rattle.report_lines.proofs.Writing.{nothing, same_text}
 use Rattle.report_lines.proofs.Parts.{bind-none, bind-put}
-use borrow.Author.Rules.{rules}
 use Rattle.report_lines.proofs.bind_line.Goals as goal
 
 pub returns-then-word-eq0 : goal.returns-then-word-eq0

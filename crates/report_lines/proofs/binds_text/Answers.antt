@@ -1,10 +1,6 @@
-use Prim.Native.Nat.{◌+◌, ◌-◌, ◌*◌, ◌≤◌}
+use Prim.Native.Nat.{◌-◌}
 use native.Mathlib.Omega.{arith}
-use lib.ListN.{length}
-use borrow.Author.Rules.{rules}
-use Rattle.rules.specs.Labels.{each}
 use Rattle.report_lines.specs.Text.{bind_line}
-use Rattle.report_lines.specs.Wrote.{Wrote}
 use Rattle.report_lines.proofs.Parts.{no_lines, next-line, binds-put}
 use Rattle.report_lines.proofs.binds_text.Goals as goal
 

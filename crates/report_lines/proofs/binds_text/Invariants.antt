@@ -1,13 +1,10 @@
 -- The loop's invariant: the lines of the rows passed stand behind the heading, each of at most 16 bytes. The measure is what is left of the rows.
 -- Assumes nothing.
 use Prim.Native.Nat.{◌+◌, ◌-◌, ◌*◌, ◌≤◌}
-use native.Mathlib.Omega.{arith}
 use lib.ListN.{length}
-use borrow.Author.Rules.{rules}
 use Rattle.rules.specs.Labels.{each}
 use Rattle.report_lines.specs.Text.{bind_line}
 use Rattle.report_lines.specs.Wrote.{Wrote}
-use Rattle.report_lines.proofs.Parts.{no_lines, next-line, binds-put}
 use Rattle.report_lines.proofs.binds_text.Given as goal
 
 abbrev pub invariant-loop-row : goal.invariant-loop-row

@@ -1,8 +1,7 @@
 use mathlib.Core.Path.{◌≡◌, ◌∙◌, ap}
-use Prim.Native.Nat.{◌-◌, ◌≤◌}
+use Prim.Native.Nat.{◌-◌}
 use native.Mathlib.Omega.{arith}
 use lib.ListN.{length}
-use borrow.Author.Rules.{rules}
 use Rattle.report_lines.specs.Lines.{bound_below}
 use Rattle.report_lines.proofs.Parts.{bound-zero, bound-not, bound-one}
 use Rattle.report_lines.proofs.bound_count.Goals as goal

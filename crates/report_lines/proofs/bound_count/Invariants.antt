@@ -1,12 +1,9 @@
 -- The loop's invariant: `count` of the rows passed are bound. The measure is what is left of the rows.
 -- Assumes nothing.
-use mathlib.Core.Path.{◌≡◌, ◌∙◌, ap}
+use mathlib.Core.Path.{◌≡◌}
 use Prim.Native.Nat.{◌-◌, ◌≤◌}
-use native.Mathlib.Omega.{arith}
 use lib.ListN.{length}
-use borrow.Author.Rules.{rules}
 use Rattle.report_lines.specs.Lines.{bound_below}
-use Rattle.report_lines.proofs.Parts.{bound-zero, bound-not, bound-one}
 use Rattle.report_lines.proofs.bound_count.Given as goal
 
 abbrev pub invariant-loop-row : goal.invariant-loop-row

@@ -2,7 +2,6 @@
 -- Assumes nothing.
 use native.Mathlib.Omega.{arith}
 use Rattle.report_lines.proofs.Parts.{fault-put}
-use borrow.Author.Rules.{rules}
 use Rattle.report_lines.proofs.fault_line.Goals as goal
 
 pub returns : goal.returns

@@ -5,7 +5,6 @@ use native.Mathlib.Omega.{arith}
 use Rattle.names.specs.Place.{place}
 use Rattle.report_lines.specs.Text.{placed_text}
 use Rattle.report_lines.proofs.Writing.{same_text}
-use borrow.Author.Rules.{rules}
 use Rattle.report_lines.proofs.placed_text.Goals as goal
 
 pub returns-in-At : goal.returns-in-At

@@ -4,7 +4,6 @@ use native.Mathlib.Omega.{arith}
 use Rattle.report_lines.proofs.Decimals.{any-ends}
 use Rattle.report_lines.proofs.Writing.{counts}
 use Rattle.report_lines.proofs.Parts.{refused-put}
-use borrow.Author.Rules.{rules}
 use Rattle.report_lines.proofs.refused_text.Goals as goal
 
 pub returns : goal.returns

@@ -1,9 +1,5 @@
-use Prim.Native.Nat.{◌+◌, ◌-◌, ◌*◌, ◌≤◌}
+use Prim.Native.Nat.{◌-◌}
 use native.Mathlib.Omega.{arith}
-use borrow.Author.Rules.{rules}
-use Rattle.rules.specs.Labels.{each}
-use Rattle.report_lines.specs.Wrote.{Wrote}
-use Rattle.report_lines.specs.Lines.{sheet_line}
 use Rattle.report_lines.proofs.Parts.{no_lines, next-line, sheet-put}
 use Rattle.report_lines.proofs.sheet_text.Goals as goal
 

@@ -1,12 +1,9 @@
 -- The loop's invariant: the first i lines stand behind the heading, each of at most 44 bytes. The measure is what is left of the lines.
 -- Assumes nothing.
 use Prim.Native.Nat.{◌+◌, ◌-◌, ◌*◌, ◌≤◌}
-use native.Mathlib.Omega.{arith}
-use borrow.Author.Rules.{rules}
 use Rattle.rules.specs.Labels.{each}
 use Rattle.report_lines.specs.Wrote.{Wrote}
 use Rattle.report_lines.specs.Lines.{sheet_line}
-use Rattle.report_lines.proofs.Parts.{no_lines, next-line, sheet-put}
 use Rattle.report_lines.proofs.sheet_text.Given as goal
 
 abbrev pub invariant-loop-i : goal.invariant-loop-i

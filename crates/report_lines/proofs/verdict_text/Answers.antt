@@ -4,7 +4,6 @@ use mathlib.Core.Path.{ap, sym}
 use native.Mathlib.Omega.{arith}
 use Rattle.report_lines.specs.Text.{verdict_text}
 use Rattle.report_lines.proofs.Writing.{same_text}
-use borrow.Author.Rules.{rules}
 use Rattle.report_lines.proofs.verdict_text.Goals as goal
 
 pub returns-then-terminating : goal.returns-then-terminating

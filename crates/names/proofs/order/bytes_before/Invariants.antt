@@ -1,13 +1,10 @@
 -- `order::bytes_before` meets its contract. The loop's invariant: both lists are equal up to i, so the lists from i on
 -- are in the order of the whole lists. The measure is what is left of the shorter length.
 -- Assumes nothing.
-use mathlib.Core.Path.{◌≡◌, refl, sym, ◌∙◌}
+use mathlib.Core.Path.{◌≡◌}
 use Prim.Native.Nat.{◌≤◌, ◌-◌}
-use native.Mathlib.Omega.{arith}
 use lib.ListN.{length, drop}
-use borrow.Author.Rules.{rules}
 use Rattle.rules.specs.Names.{bytes_before}
-use Rattle.names.proofs.Bytes.{before-lengths, before-next, first-other}
 use Rattle.names.proofs.order.bytes_before.Given as goal
 
 abbrev pub invariant-loop-i : goal.invariant-loop-i

@@ -1,12 +1,10 @@
 -- `order::same_bytes` meets its contract. The lengths are equal after the first test. The loop's invariant:
 -- the lists from i on have the same bytes exactly when the whole lists do. The measure is what is left of the length.
 -- Assumes nothing.
-use mathlib.Core.Path.{◌≡◌, refl, sym, ◌∙◌}
+use mathlib.Core.Path.{◌≡◌}
 use Prim.Native.Nat.{◌≤◌, ◌-◌}
-use native.Mathlib.Omega.{arith}
 use lib.ListN.{length, drop}
 use Rattle.rules.specs.Names.{same_bytes}
-use Rattle.names.proofs.Bytes.{other_length, same_end, same_next, other_byte}
 use Rattle.names.proofs.order.same_bytes.Given as goal
 
 abbrev pub invariant-loop-i : goal.invariant-loop-i

@@ -1,8 +1,5 @@
-use Prim.Native.Nat.{◌+◌, ◌-◌, ◌≤◌}
+use Prim.Native.Nat.{◌-◌}
 use native.Mathlib.Omega.{arith}
-use lib.ListN.{length, take}
-use borrow.Author.Rules.{rules}
-use Rattle.report_lines.specs.Wrote.{Wrote}
 use Rattle.report_lines.proofs.Writing.{nothing, next_of, all_of}
 use Rattle.report_lines.proofs.text.bytes.Goals as goal
 

@@ -1,11 +1,8 @@
 -- The loop's invariant: the first i bytes of the text are put. The measure is what is left of the text.
 -- Assumes nothing.
 use Prim.Native.Nat.{◌+◌, ◌-◌, ◌≤◌}
-use native.Mathlib.Omega.{arith}
 use lib.ListN.{length, take}
-use borrow.Author.Rules.{rules}
 use Rattle.report_lines.specs.Wrote.{Wrote}
-use Rattle.report_lines.proofs.Writing.{nothing, next_of, all_of}
 use Rattle.report_lines.proofs.text.bytes.Given as goal
 
 abbrev pub invariant-loop-i : goal.invariant-loop-i

@@ -9,7 +9,6 @@ use Rattle.report_lines.specs.Text.{decimal}
 use Rattle.report_lines.specs.Wrote.{Wrote}
 use Rattle.report_lines.proofs.Decimals.{fewest-twenty, fewest-decimal}
 use Rattle.report_lines.proofs.Writing.{same_text}
-use borrow.Author.Rules.{rules}
 use Rattle.report_lines.proofs.text.number.Goals as goal
 
 put : {o o' : List ℕ} {at e n r : ℕ} {t : List ℕ} → n < 100000000000000000000 → IsDigitCount 10 1 n r → t ≡ last_digits 10 r n → Wrote o o' at t e

@@ -3,7 +3,6 @@
 use native.Mathlib.Omega.{arith}
 use Rattle.report_lines.proofs.Decimals.{decimal-twenty}
 use Rattle.report_lines.proofs.Writing.{behind}
-use borrow.Author.Rules.{rules}
 use Rattle.report_lines.proofs.text.number_and.Goals as goal
 
 pub bytes-requires : goal.bytes-requires

@@ -3,7 +3,6 @@
 use native.Mathlib.Omega.{arith}
 use Rattle.report_lines.proofs.Decimals.{any-ends}
 use Rattle.report_lines.proofs.Writing.{behind}
-use borrow.Author.Rules.{rules}
 use Rattle.report_lines.proofs.text.title.Goals as goal
 
 pub returns : goal.returns

@@ -3,7 +3,6 @@
 use Prim.Native.Nat.{◌<◌}
 use native.Mathlib.Omega.{arith}
 use Rattle.report_lines.proofs.Decimals.{number-ends}
-use borrow.Author.Rules.{rules}
 use Rattle.report_lines.proofs.text.word_and.Goals as goal
 
 pub returns : goal.returns

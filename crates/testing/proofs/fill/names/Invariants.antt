@@ -1,6 +1,6 @@
 -- One byte a turn, so what is left of them falls. They keep their length.
 -- Assumes nothing.
-use Rattle.std.proofs.Common.{◌≡◌, ◌-◌, length, rules}
+use Rattle.std.proofs.Common.{◌≡◌, ◌-◌, length}
 use Rattle.testing.proofs.fill.names.Given as goal
 
 abbrev pub invariant-loop-i : goal.invariant-loop-i

@@ -1,6 +1,6 @@
 -- The words keep their length. The measure is how many are left to set.
 -- Assumes nothing.
-use Rattle.std.proofs.Common.{◌≡◌, length, rules}
+use Rattle.std.proofs.Common.{◌≡◌, length}
 use Rattle.testing.proofs.fill.words.Given as goal
 
 abbrev pub invariant-loop-left : goal.invariant-loop-left

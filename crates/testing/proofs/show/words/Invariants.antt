@@ -1,6 +1,6 @@
 -- One word a turn, so what is left of them falls.
 -- Assumes nothing.
-use Rattle.std.proofs.Common.{◌-◌, ◌≤◌, length, rules}
+use Rattle.std.proofs.Common.{◌-◌, ◌≤◌, length}
 use Rattle.testing.proofs.show.words.Given as goal
 
 abbrev pub invariant-loop-i : goal.invariant-loop-i

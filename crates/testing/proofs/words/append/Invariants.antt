@@ -1,6 +1,6 @@
 -- One byte of the line a turn, so what is left of it falls. The words keep their length.
 -- Assumes nothing.
-use Rattle.std.proofs.Common.{◌≡◌, ◌-◌, length, rules}
+use Rattle.std.proofs.Common.{◌≡◌, ◌-◌, length}
 use Rattle.testing.proofs.words.append.Given as goal
 
 abbrev pub invariant-loop-i : goal.invariant-loop-i
