@@ -7,9 +7,8 @@ use std::fmt::Write;
 const HEAD: &str = "\
 -- Bodies with what goscript's own label.rs and returns.rs answer for them, made by `definition` in oracle/compare.
 -- Assumes nothing.
-use mathlib.Core.Bool.{true, false}
-use mathlib.Core.List.{List, [], _∷_}
-use Rattle·goscript_cases·specs.specs.Case.{Case, both, each}
+use Rattle.std.specs.Prelude.{true, false, List, [], ◌∷◌}
+use Rattle.goscript_cases.specs.Case.{Case, both, each}
 
 ";
 
