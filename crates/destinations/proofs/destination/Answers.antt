@@ -18,15 +18,15 @@ few : {w p b : List ℕ} → Faultless w p b → row_count w ≤ 2000
 few f = (formed f).most_rows
 
 -- ---- what the tables say at each detail
-on-break : (c : In-0) → BreakPlace c.requires.tables c.args.r c.requires.r_bound.0
-on-break c =
+on-break : (c : In-0) → c.detail.result ≡ 0 → BreakPlace c.requires.tables c.args.r c.requires.r_bound.0
+on-break c z =
     let row = c.requires.r_bound.0 in
-    break-place c.requires.tables _ row (is-break _ _ _ (allowed c.requires.tables _ row) c.requires.r_bound.1 c.detail.ensures c.in-0.is)
+    break-place c.requires.tables _ row (is-break _ _ _ (allowed c.requires.tables _ row) c.requires.r_bound.1 c.detail.ensures z)
 
-on-continue : (c : In-1) → ContinuePlace c.requires.tables c.args.r c.requires.r_bound.0
-on-continue c =
+on-continue : (c : In-1) → c.detail.result ≡ 1 → ContinuePlace c.requires.tables c.args.r c.requires.r_bound.0
+on-continue c z =
     let row = c.requires.r_bound.0 in
-    continue-place c.requires.tables _ row (is-continue _ _ _ (allowed c.requires.tables _ row) c.requires.r_bound.1 c.detail.ensures c.in-1.is)
+    continue-place c.requires.tables _ row (is-continue _ _ _ (allowed c.requires.tables _ row) c.requires.r_bound.1 c.detail.ensures z)
 
 on_goto : (c : In-2) → GotoPlace c.requires.tables c.args.r c.requires.r_bound.0
 on_goto c =
@@ -45,20 +45,20 @@ next : (c : After-size) →
 next c = end_of c.args.rows.now _ _ _ (ap (λ (n : ℕ). n - 1) c.wide-case.ensures) c.size.ensures
 
 pub statement-left-requires : goal.statement-left-requires
-statement-left-requires c = (on-break (goal.at.statement-left-requires c).In-0).0
+statement-left-requires c = (on-break (goal.at.statement-left-requires c).In-0 c.in-0.is).0
 
 pub offset_bounds-afters-left : goal.offset_bounds-afters-left
-offset_bounds-afters-left c = omega (arith, c.statement-left.ensures, (on-break (goal.at.offset_bounds-afters-left c).In-0).1, few c.requires.tables.faultless)
+offset_bounds-afters-left c = omega (arith, c.statement-left.ensures, (on-break (goal.at.offset_bounds-afters-left c).In-0 c.in-0.is).1, few c.requires.tables.faultless)
 
 pub bounds-afters-left : goal.bounds-afters-left
 bounds-afters-left c =
-    omega (arith, c.statement-left.ensures, (on-break (goal.at.bounds-afters-left c).In-0).1, c.requires.tables.afters_room)
+    omega (arith, c.statement-left.ensures, (on-break (goal.at.bounds-afters-left c).In-0 c.in-0.is).1, c.requires.tables.afters_room)
 
 pub statement-requires : goal.statement-requires
-statement-requires c = (on-continue (goal.at.statement-requires c).In-1).0
+statement-requires c = (on-continue (goal.at.statement-requires c).In-1 c.in-1.is).0
 
 pub overflow_add-result : goal.overflow_add-result
-overflow_add-result c = omega (arith, c.statement.ensures, (on-continue (goal.at.overflow_add-result c).In-1).1, few c.requires.tables.faultless)
+overflow_add-result c = omega (arith, c.statement.ensures, (on-continue (goal.at.overflow_add-result c).In-1 c.in-1.is).1, few c.requires.tables.faultless)
 
 pub overflow_cast-result : goal.overflow_cast-result
 overflow_cast-result c = omega (arith, (on_goto (goal.at.overflow_cast-result c).In-2).0, few c.requires.tables.faultless)
@@ -80,7 +80,7 @@ overflow_add-result-in_default c = omega (arith, next (goal.at.overflow_add-resu
 
 pub returns-in-0 : goal.returns-in-0
 returns-in-0 c = (
-  rw (c.wide.ensures, c.statement-left.ensures) (on-break (goal.at.returns-in-0 c).In-0).2,
+  rw (c.wide.ensures, c.statement-left.ensures) (on-break (goal.at.returns-in-0 c).In-0 c.in-0.is).2,
   omega (arith, c.wide.ensures, c.type_inv.afters c.statement-left.result),
 )
 
@@ -88,7 +88,7 @@ pub returns-in-1 : goal.returns-in-1
 returns-in-1 c =
     let t = (goal.at.returns-in-1 c).In-1 in
     let e = c.statement.ensures in
-    ((on-continue t).2 _ (ap (λ (n : ℕ). n + 2) e), omega (arith, e, (on-continue t).1, few c.requires.tables.faultless))
+    ((on-continue t c.in-1.is).2 _ (ap (λ (n : ℕ). n + 2) e), omega (arith, e, (on-continue t c.in-1.is).1, few c.requires.tables.faultless))
 
 pub returns-in-2 : goal.returns-in-2
 returns-in-2 c =

@@ -80,18 +80,16 @@ kind_is f a e = row-expression-switch _ _ _ e (f.formed.2.details _ (omega (arit
 the_list : (c : Else-list-eq0) → InList c.args.rows.now c.args.row.0 (c.wide-list.result - 1)
 the_list c = in_list c.requires.formed_lists c.requires.row_bound.0 c.requires.row_bound.1 c.wide-list.ensures c.if-list-eq0.false
 
-the_case : (c : Else-kind-ne-CASE) → InCase c.args.rows.now c.args.row.0 (c.wide-list.result - 1)
-the_case c =
+the_case : (c : Else-kind-ne-CASE) → c.kind.result ≡ 14 → InCase c.args.rows.now c.args.row.0 (c.wide-list.result - 1)
+the_case c z =
     in_case c.requires.formed_lists
-    (in_list c.requires.formed_lists c.requires.row_bound.0 c.requires.row_bound.1 c.wide-list.ensures c.if-list-eq0.false) c.kind.ensures
-    c.if-kind-ne-CASE.false
+    (in_list c.requires.formed_lists c.requires.row_bound.0 c.requires.row_bound.1 c.wide-list.ensures c.if-list-eq0.false) c.kind.ensures z
 
-the_switch : (c : Else-block-eq0) → InSwitch c.args.rows.now c.args.row.0 (c.wide-list.result - 1) c.wide-block.result
-the_switch c =
+the_switch : (c : Else-block-eq0) → c.kind.result ≡ 14 → InSwitch c.args.rows.now c.args.row.0 (c.wide-list.result - 1) c.wide-block.result
+the_switch c z =
     in_switch c.requires.formed_lists
     (in_case c.requires.formed_lists
-    (in_list c.requires.formed_lists c.requires.row_bound.0 c.requires.row_bound.1 c.wide-list.ensures c.if-list-eq0.false) c.kind.ensures
-    c.if-kind-ne-CASE.false)
+    (in_list c.requires.formed_lists c.requires.row_bound.0 c.requires.row_bound.1 c.wide-list.ensures c.if-list-eq0.false) c.kind.ensures z)
     c.wide-block.ensures c.if-block-eq0.false
 
 pub returns-then-list-eq0 : goal.returns-then-list-eq0
@@ -123,31 +121,31 @@ bounds-lists-case c = omega (arith, (the_list (goal.at.bounds-lists-case c).Else
 
 pub returns-then-block-eq0 : goal.returns-then-block-eq0
 returns-then-block-eq0 c =
-    let a = the_case (goal.at.returns-then-block-eq0 c).Else-kind-ne-CASE in
+    let a = the_case (goal.at.returns-then-block-eq0 c).Else-kind-ne-CASE c.if-kind-ne-CASE.false in
     no-home _ _ _ a.list.found a.a_case (row-none _ _ (block_word c.requires.formed_lists a c.wide-block.ensures) c.if-block-eq0.true)
 
 pub size-requires-2 : goal.size-requires-2
-size-requires-2 c = (the_switch (goal.at.size-requires-2 c).Else-block-eq0).block_row
+size-requires-2 c = (the_switch (goal.at.size-requires-2 c).Else-block-eq0 c.if-kind-ne-CASE.false).block_row
 
 pub overflow_add-block_end : goal.overflow_add-block_end
 overflow_add-block_end c =
-    let a = the_switch (goal.at.overflow_add-block_end c).Else-block-eq0 in
+    let a = the_switch (goal.at.overflow_add-block_end c).Else-block-eq0 c.if-kind-ne-CASE.false in
     omega (arith, c.size-2.ensures, c.requires.formed_lists.formed.2.sized.within _ a.block_row)
 
 pub returns-then-block_end-case_end : goal.returns-then-block_end-case_end
 returns-then-block_end-case_end c =
-    let a = the_switch (goal.at.returns-then-block_end-case_end c).Else-block-eq0 in
+    let a = the_switch (goal.at.returns-then-block_end-case_end c).Else-block-eq0 c.if-kind-ne-CASE.false in
     last-case _ _ _ a.case.list.found a.case.a_case _ a.block (omega (arith, c.size.ensures, c.size-2.ensures))
 
 pub overflow_sub-block-2 : goal.overflow_sub-block-2
-overflow_sub-block-2 c = (the_switch (goal.at.overflow_sub-block-2 c).Else-block-eq0).low
+overflow_sub-block-2 c = (the_switch (goal.at.overflow_sub-block-2 c).Else-block-eq0 c.if-kind-ne-CASE.false).low
 
 pub kind-requires-2 : goal.kind-requires-2
-kind-requires-2 c = omega (arith, (the_switch (goal.at.kind-requires-2 c).Else-block-eq0).block_row)
+kind-requires-2 c = omega (arith, (the_switch (goal.at.kind-requires-2 c).Else-block-eq0 c.if-kind-ne-CASE.false).block_row)
 
 pub returns-then-kind-ne-SWITCH : goal.returns-then-kind-ne-SWITCH
 returns-then-kind-ne-SWITCH c =
-    let a = the_switch (goal.at.returns-then-kind-ne-SWITCH c).Else-block-eq0 in
+    let a = the_switch (goal.at.returns-then-kind-ne-SWITCH c).Else-block-eq0 c.if-kind-ne-CASE.false in
     type-switch _ _ _ a.case.list.found a.case.a_case _ a.block (omega (arith, c.size.ensures, c.size-2.ensures)) _
     a.switch_is
     (sym (kind_is c.requires.formed_lists a c.kind-2.ensures) ∙ ne_eqb _ 15 c.if-kind-ne-SWITCH.true)
@@ -159,7 +157,7 @@ only_empty-requires c =
 
 pub returns : goal.returns
 returns c =
-    let a = the_switch (goal.at.returns c).Else-block-eq0 in
+    let a = the_switch (goal.at.returns c).Else-block-eq0 c.if-kind-ne-CASE.false in
     c.only_empty.ensures ∙ ap (only_empty c.args.rows.now (c.args.row.0 + 1)) (ap (λ (n : ℕ). c.wide-list.result - 1 + n) c.size.ensures)
     ∙ by-rest _ _ _ a.case.list.found a.case.a_case _ a.block (omega (arith, c.size.ensures, c.size-2.ensures)) _ a.switch_is
     (sym (kind_is c.requires.formed_lists a c.kind-2.ensures) ∙ eq-eqb _ 15 c.if-kind-ne-SWITCH.false)
