@@ -1,36 +1,23 @@
 -- The place after a row, by what its parent is: the parent again if that is a loop, the next item of a list, else the place after the parent.
--- Only what holds statements is a list, as the table of the classes says.
 -- Assumes nothing.
-use mathlib.Core.Path.{◌≡◌, refl, sym, ◌∙◌, ap}
-use mathlib.Core.Bool.{Bool, true, false}
+use mathlib.Core.Path.{◌≡◌, sym, ◌∙◌, ap}
+use mathlib.Core.Bool.{true, false}
 use mathlib.Core.List.{List}
 use mathlib.Core.Logic.{◌⊎◌, ⊎_elim}
 use Prim.Native.Nat.{ℕ, ◌+◌, ◌≤◌, ◌<◌}
 use native.Mathlib.Omega.{arith}
-use native.Mathlib.Decide.{ℕ_discrete}
 use lib.ListN.{length, set}
-use lib.Seq.{get_or-set_same, get_or-set_other}
-use Rattle.rules.specs.Scan.{lowest}
+use lib.Seq.{get_or-set_same}
 use Rattle.rules.specs.Rows.{row_count, end, Child}
-use Rattle.rules.specs.Class.{Class, is_loop, class}
-use Rattle.rules.specs.Refusals.{Holding, nothing, statement, body as one, branches, statements, cases, comms, holding}
+use Rattle.rules.specs.Class.{is_loop, class}
 use Rattle.rules.specs.Scope.{is_list}
 use Rattle.rules.specs.Body.{Body}
 use Rattle.rules.specs.Runner.{after}
 use Rattle.rules.specs.Walking.{place_of}
 use Rattle.rules.proofs.Test.{case-of}
-use Rattle.rules.proofs.Every.{every, same, same-eq, of-class}
 use Rattle.rules.proofs.WalkSteps.{place-row}
 use Rattle.rules.proofs.Going.{after-root, after-in-loop, after-in-list, after_last, after-in-other}
 use Rattle.afters.specs.Afters.{AftersBelow}
-
--- ---- a row that holds a list
-abbrev pub holds_list : Holding → Bool
-holds_list h = elim h [ nothing ↦ false | statement ↦ false | one ↦ false | branches ↦ false | statements ↦ true | cases ↦ false | comms ↦ false ]
-
-pub list-holds : (c : Class) → holds_list (holding c) ≡ is_list c
-unfolding every lowest
-list-holds c = same-eq (holds_list (holding c)) (is_list c) (of-class (λ d. same (holds_list (holding d)) (is_list d)) refl c)
 
 -- ---- the place after row r, whose parent is k
 module _ {w p b : List ℕ} (body : Body w p b) where
@@ -49,14 +36,7 @@ module _ {w p b : List ℕ} (body : Body w p b) where
         s)
 
 -- ---- the words
-module _ (w t : List ℕ) where
-  pub afters-start : 0 < length t → AftersBelow w (set t 0 1) 1
-  afters-start m q h =
-      let z : q ≡ 0 = omega arith in
-      rw z (ap place_of (get_or-set_same t 0 1 0 m) ∙ sym (after-root w))
-
-  pub afters-more : (r v : ℕ) → r < length t → place_of v ≡ after w r → AftersBelow w t r → AftersBelow w (set t r v) (r + 1)
-  afters-more r v m e a q h = elim (ℕ_discrete q r) [
-    | yes y ↦ rw y (ap place_of (get_or-set_same t r v 0 m) ∙ e)
-    | no n ↦ ap place_of (get_or-set_other t r q v 0 n) ∙ a q (omega arith)
-  ]
+pub afters-start : (w t : List ℕ) → 0 < length t → AftersBelow w (set t 0 1) 1
+afters-start w t m q h =
+    let z : q ≡ 0 = omega arith in
+    rw z (ap place_of (get_or-set_same t 0 1 0 m) ∙ sym (after-root w))

@@ -12,29 +12,15 @@ ghost use Rattle.rules.specs.Walking.{place_of};
 ghost use Rattle.parents.specs.Parents.{Parents};
 ghost use Rattle.afters.specs.Afters.{AftersBelow, Afters};
 
-use rows::{RowNumber, kinds};
+use rows::RowNumber;
 use shape::Holding;
-
-fn wide(number: u16) -> usize
-    ensures { result ≡ number }
-{
-    number as usize
-}
 
 // Whether the row is a Block, Case or Comm that holds a list.
 pub fn is_list(rows: &[u32], row: RowNumber) -> bool
     requires { (row.0 < row_count rows.now) × Detailed rows.now }
     ensures { result ≡ is_list (class rows.now row.0) }
 {
-    match shape::holding_at(rows, row) {
-        Holding::Nothing => false,
-        Holding::Statement => false,
-        Holding::Body => false,
-        Holding::Branches => false,
-        Holding::Statements => true,
-        Holding::Cases => false,
-        Holding::Comms => false,
-    }
+    matches!(shape::holding_at(rows, row), Holding::Statements)
 }
 
 // The place after row r, where those after the rows before it are there: its parent again if that is
@@ -44,18 +30,16 @@ fn after_at(rows: &[u32], parents: &[u16], afters: &[u16], r: usize) -> usize
     requires r_nonzero { (0 < r) × (r < row_count rows.now) × (row_count rows.now ≤ length parents.now) × (row_count rows.now ≤ length afters.now) }
     ensures { (place_of result ≡ after rows.now r) × (result < 65536) }
 {
-    let p = wide(parents[r]) - 1;
+    let p = usize::from(parents[r]) - 1;
     let parent = RowNumber(p);
-    if kinds::is_loop(rows::kind(rows, parent)) {
+    if rows::kind_at(rows, parent).is_loop() {
         return p + 2;
     }
     let next = r + rows::size(rows, RowNumber(r));
-    if next < p + rows::size(rows, parent) {
-        if is_list(rows, parent) {
-            return next + 2;
-        }
+    if next < p + rows::size(rows, parent) && is_list(rows, parent) {
+        return next + 2;
     }
-    wide(afters[p])
+    usize::from(afters[p])
 }
 
 // Writes the place after each row.
@@ -64,12 +48,8 @@ pub fn afters_of(rows: &[u32], parents: &[u16], afters: &mut [u16])
     requires rows_in_bounds { (row_count rows.now ≤ length parents.now) × (row_count rows.now ≤ length afters.old) }
     ensures { Afters rows.now afters.new }
 {
-    let count = rows.len() / 5;
     afters[0] = 1;
-    let mut r = 1;
-    while r < count {
-        let place = after_at(rows, parents, afters, r);
-        afters[r] = place as u16;
-        r += 1;
+    for r in 1..rows.len() / 5 {
+        afters[r] = after_at(rows, parents, afters, r) as u16;
     }
 }

@@ -46,18 +46,6 @@ module _ {w : List ℕ} {e b c : ℕ} (a : Looking w e b c) where
             ]
       ]
 
-  pub looks-found : c < e → is_default (base w c) ≡ true → NextDefault w e b c
-  looks-found l t = record { high = omega arith; item = a.at; default = λ m. t; before = a.before }
-
-  pub looks-none : e ≤ c → NextDefault w e b e
-  looks-none l =
-      record {
-        high = omega arith;
-        item = λ m. absurd (omega arith);
-        default = λ m. absurd (omega arith);
-        before = λ s i m. a.before s i (omega arith);
-      }
-
 -- ---- the second default among the children of p
 module _ {w : List ℕ} {p e : ℕ} (z : e ≡ end w p) where
   module _ {f : ℕ} (a : NextDefault w e (suc p) f) where
@@ -111,9 +99,6 @@ pub record Lowest (w : List ℕ) (m r : ℕ) : Type 0 where
   pub high : m ≤ row_count w
   pub second : m < row_count w → second_default w m ≡ true
   pub before : (p k : ℕ) → p < r → k < m → SecondChild w p k → ⊥
-
-pub lowest-none : (w : List ℕ) → Lowest w (row_count w) 0
-lowest-none w = record { high = omega arith; second = λ l. absurd (omega arith); before = λ p k l. absurd (omega arith) }
 
 module _ {w : List ℕ} (sized : Sized w) (inside : Inside w) {m r : ℕ} (a : Lowest w m r) where
   -- none before x is found at r or before it

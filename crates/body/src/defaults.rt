@@ -5,11 +5,11 @@ ghost use Rattle.rules.specs.Rows.{row_count};
 ghost use Rattle.rules.specs.Class.{is_default, base};
 ghost use Rattle.rules.specs.Refusals.{cause10};
 ghost use Rattle.rules.specs.Body.{Sized, Detailed};
-ghost use Rattle.names.specs.Place.{place};
+ghost use Rattle.rows.specs.Found.{row_found};
 ghost use Rattle.body.specs.Defaults.{Inside, NextDefault, SecondOf};
 
-use names::Found;
-use rows::{RowNumber, details, kinds};
+use rows::kinds::Kind;
+use rows::{RowNumber, details};
 
 // Whether the row is a default clause.
 fn is_default(rows: &[u32], row: RowNumber) -> bool
@@ -19,11 +19,7 @@ fn is_default(rows: &[u32], row: RowNumber) -> bool
     if rows::detail(rows, row) != details::DEFAULT {
         return false;
     }
-    let kind = rows::kind(rows, row);
-    if kind == kinds::CASE {
-        return true;
-    }
-    kind == kinds::COMM
+    matches!(rows::kind_at(rows, row), Kind::Case | Kind::Comm)
 }
 
 // The first default clause of the rows from `from` on, stepped through by size, before `end`; `end`
@@ -43,40 +39,40 @@ fn next_default(rows: &[u32], from: usize, end: usize) -> usize
 }
 
 // The second default among the children of the row.
-fn second_default(rows: &[u32], row: RowNumber) -> Found
+fn second_default(rows: &[u32], row: RowNumber) -> Option<RowNumber>
     requires { (row.0 < row_count rows.now) × (row_count rows.now ≤ 2000) × Sized rows.now × Detailed rows.now }
-    ensures { SecondOf rows.now row.0 (place result) }
+    ensures { SecondOf rows.now row.0 (row_found result) }
 {
     let end = row.0 + rows::size(rows, row);
     let first = next_default(rows, row.0 + 1, end);
     if first == end {
-        return Found::Nowhere;
+        return None;
     }
     let second = next_default(rows, first + rows::size(rows, RowNumber(first)), end);
     if second == end {
-        return Found::Nowhere;
+        return None;
     }
-    Found::At(second)
+    Some(RowNumber(second))
 }
 
 // The lowest clause that is a second default, once sizes, details and shapes are right.
-pub fn first_second_default(rows: &[u32]) -> Found
+pub fn first_second_default(rows: &[u32]) -> Option<RowNumber>
     requires { (row_count rows.now ≤ 2000) × Sized rows.now × Detailed rows.now × Inside rows.now }
-    ensures { place result ≡ cause10 rows.now }
+    ensures { row_found result ≡ cause10 rows.now }
 {
     let count = rows.len() / 5;
     let mut lowest = count;
     let mut r = 0;
     while r < lowest {
-        if let Found::At(c) = second_default(rows, RowNumber(r)) {
-            if c < lowest {
-                lowest = c;
+        if let Some(clause) = second_default(rows, RowNumber(r)) {
+            if clause.0 < lowest {
+                lowest = clause.0;
             }
         }
         r += 1;
     }
     if lowest == count {
-        return Found::Nowhere;
+        return None;
     }
-    Found::At(lowest)
+    Some(RowNumber(lowest))
 }

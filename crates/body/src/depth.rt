@@ -4,34 +4,24 @@ ghost use Rattle.std.specs.Prelude.{◌≡◌, ◌≤◌};
 ghost use Rattle.rules.specs.Rows.{row_count};
 ghost use Rattle.rules.specs.Refusals.{cause6};
 ghost use Rattle.rules.specs.Body.{Sized};
-ghost use Rattle.names.specs.Place.{place};
+ghost use Rattle.rows.specs.Found.{row_found};
 
-use names::Found;
 use rows::RowNumber;
 
-fn wide(number: u16) -> usize
-    ensures { result ≡ number }
-{
-    number as usize
-}
-
 // The first row over 100 deep, once sizes are right.
-pub fn first_too_deep(rows: &[u32]) -> Found
+pub fn first_too_deep(rows: &[u32]) -> Option<RowNumber>
     requires { Sized rows.now × (row_count rows.now ≤ 2000) }
-    ensures { place result ≡ cause6 rows.now }
+    ensures { row_found result ≡ cause6 rows.now }
 {
-    let count = rows.len() / 5;
     let mut ends = [0u16; 2001];
     let mut ended = 0;
-    let mut r = 0;
-    while r < count {
-        ended = ended + wide(ends[r]);
+    for r in 0..rows.len() / 5 {
+        ended += usize::from(ends[r]);
         if 100 < r + 1 - ended {
-            return Found::At(r);
+            return Some(RowNumber(r));
         }
         let end = r + rows::size(rows, RowNumber(r));
-        ends[end] = ends[end] + 1;
-        r += 1;
+        ends[end] += 1;
     }
-    Found::Nowhere
+    None
 }

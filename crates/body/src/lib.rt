@@ -4,24 +4,47 @@
 pub mod defaults;
 pub mod depth;
 
-ghost use Rattle.std.specs.Prelude.{◌≡◌};
+ghost use Rattle.std.specs.Prelude.{◌≡◌, IfOk};
 ghost use Rattle.rules.specs.Scan.{lowest};
 ghost use Rattle.rules.specs.Rows.{row_count};
-ghost use Rattle.rules.specs.Refusals.{bad_row_words, bad_row, bad_size, refusal};
-ghost use Rattle.names.specs.Place.{place};
+ghost use Rattle.rules.specs.Refusals.{bad_row_words, bad_row, bad_size, refusal, WellFormed};
+ghost use Rattle.rows.specs.Found.{row_found};
 ghost use Rattle.body.specs.Given.{given};
 
-use names::Found;
+use names::Names;
 use refusals::Refusal;
 use row_checks::row_allowed;
 use rows::RowNumber;
 use rows_fit::well_formed_rows;
 
-// Whether a body is refused or well-formed.
+// A well-formed body: row words, pair words and name bytes that no cause refuses.
 #[derive(Clone, Copy)]
-pub enum Checked {
-    Refused(Refusal),
-    WellFormed,
+pub struct Body<'a> {
+    pub rows: &'a [u32],
+    pub pairs: &'a [u32],
+    pub bytes: &'a [u8],
+    ghost well_formed: { WellFormed rows.now pairs.now bytes.now },
+}
+
+impl<'a> Body<'a> {
+    // The body of these words, or the first cause that applies to them.
+    pub fn new(rows: &'a [u32], pairs: &'a [u32], bytes: &'a [u8]) -> Result<Body<'a>, Refusal>
+        ensures answer { given result ≡ refusal rows.now pairs.now bytes.now }
+        ensures lent { IfOk result (λ body. (body.rows ≡ rows.entry) × (body.pairs ≡ pairs.entry) × (body.bytes ≡ bytes.entry)) }
+    {
+        refusal_of(rows, pairs, bytes)?;
+        Ok(Body { rows, pairs, bytes })
+    }
+
+    // The body's names.
+    pub fn names(self) -> Names<'a, 'a>
+        ensures { (result.pairs ≡ self.entry.pairs) × (result.bytes ≡ self.entry.bytes) }
+    {
+        Names {
+            pairs: self.pairs,
+            bytes: self.bytes,
+        }
+    }
 }
 
 // Cause 1.
@@ -38,71 +61,66 @@ fn bad_row_words(rows: &[u32]) -> bool
 }
 
 // Cause 4.
-fn first_bad_row(rows: &[u32], pairs: &[u32]) -> Found
-    ensures { place result ≡ lowest (bad_row rows.now pairs.now) (row_count rows.now) }
+fn first_bad_row(rows: &[u32], pairs: &[u32]) -> Option<RowNumber>
+    ensures { row_found result ≡ lowest (bad_row rows.now pairs.now) (row_count rows.now) }
 {
-    let count = rows.len() / 5;
-    let mut r = 0;
-    while r < count {
+    for r in 0..rows.len() / 5 {
         if !row_allowed(rows, pairs.len() / 2, RowNumber(r)) {
-            return Found::At(r);
+            return Some(RowNumber(r));
         }
-        r += 1;
     }
-    Found::Nowhere
+    None
 }
 
 // Cause 5, first part: a size of 0 or past the last row.
-fn first_bad_size(rows: &[u32]) -> Found
-    ensures { place result ≡ lowest (bad_size rows.now) (row_count rows.now) }
+fn first_bad_size(rows: &[u32]) -> Option<RowNumber>
+    ensures { row_found result ≡ lowest (bad_size rows.now) (row_count rows.now) }
 {
     let count = rows.len() / 5;
-    let mut r = 0;
-    while r < count {
+    for r in 0..count {
         let size = rows::size(rows, RowNumber(r));
         if size == 0 {
-            return Found::At(r);
+            return Some(RowNumber(r));
         }
         if count < r + size {
-            return Found::At(r);
+            return Some(RowNumber(r));
         }
-        r += 1;
     }
-    Found::Nowhere
+    None
 }
 
-// The first cause that applies to the body, or WellFormed. Each cause is tried over all rows before
+// The first cause that applies to the body, if one does. Each cause is tried over all rows before
 // the next; but most bodies are well-formed, so one walk first tries whether none of 4, 5, 10 and 6
 // applies.
-pub fn refusal_of(rows: &[u32], pairs: &[u32], bytes: &[u8]) -> Checked
+pub fn refusal_of(rows: &[u32], pairs: &[u32], bytes: &[u8]) -> Result<(), Refusal>
     ensures { given result ≡ refusal rows.now pairs.now bytes.now }
 {
     if bad_row_words(rows) {
-        return Checked::Refused(Refusal::RowWords);
+        return Err(Refusal::RowWords);
     }
     if names::bad_name_words(pairs, bytes) {
-        return Checked::Refused(Refusal::NameWords);
+        return Err(Refusal::NameWords);
     }
-    if let Found::At(i) = names::first_bad_pair(pairs, bytes) {
-        return Checked::Refused(Refusal::Pair(i));
+    if let Some(pair) = names::first_bad_pair(pairs, bytes) {
+        return Err(Refusal::Pair(pair));
     }
     if well_formed_rows(rows, pairs) {
-        return Checked::WellFormed;
+        return Ok(());
     }
-    if let Found::At(r) = first_bad_row(rows, pairs) {
-        return Checked::Refused(Refusal::Row(RowNumber(r)));
+    if let Some(row) = first_bad_row(rows, pairs) {
+        return Err(Refusal::Row(row));
     }
-    if let Found::At(r) = first_bad_size(rows) {
-        return Checked::Refused(Refusal::Shape(RowNumber(r)));
+    if let Some(row) = first_bad_size(rows) {
+        return Err(Refusal::Shape(row));
     }
-    if let Found::At(r) = shape::first_bad_shape(rows) {
-        return Checked::Refused(Refusal::Shape(RowNumber(r)));
+    if let Some(row) = shape::first_bad_shape(rows) {
+        return Err(Refusal::Shape(row));
     }
-    if let Found::At(r) = defaults::first_second_default(rows) {
-        return Checked::Refused(Refusal::SecondDefault(RowNumber(r)));
+    if let Some(row) = defaults::first_second_default(rows) {
+        return Err(Refusal::SecondDefault(row));
     }
-    if let Found::At(r) = depth::first_too_deep(rows) {
-        return Checked::Refused(Refusal::Depth(RowNumber(r)));
+    if let Some(row) = depth::first_too_deep(rows) {
+        return Err(Refusal::Depth(row));
     }
-    Checked::WellFormed
+    Ok(())
 }

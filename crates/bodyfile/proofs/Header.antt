@@ -1,14 +1,13 @@
--- The tests of the header by the code's own tests, one by one: a start that passes, and the counts within their limits.
+-- What the header's tests say: a start that passes has the length it says, and counts that nothing refuses are within their limits.
 -- Assumes nothing.
-use mathlib.Core.Path.{◌≡◌, refl, sym, ◌∙◌, ap}
+use mathlib.Core.Path.{◌≡◌, refl, sym, ◌∙◌}
 use mathlib.Core.Bool.{Bool, true, false, ◌||◌, not}
 use mathlib.Core.List.{List}
 use Prim.Native.Nat.{ℕ, ◌≤◌, ◌<◌}
 use native.Mathlib.Omega.{arith}
-use native.Mathlib.Decide.{ℕ_discrete}
 use lib.Dec.{ltb, eqb}
 use lib.ListN.{length}
-use borrow.Author.Tests.{ltb-false, eqb-true, eqb-false, not-false, lt-ltb, le-ltb, eq-eqb, ne_eqb}
+use borrow.Author.Tests.{ltb-false, eqb-true, eqb-false, not-false}
 use Rattle.rules.proofs.Test.{case-of, clash, or-false}
 use Rattle.bodyfile.specs.File.{rows, names, bytes}
 use Rattle.bodyfile.specs.Limits.{said, bad_start, count_refusal, Within}
@@ -17,24 +16,12 @@ pub or-last : (a : Bool) → a || true ≡ true
 or-last true = refl
 or-last false = refl
 
-eqb-sym : (a b : ℕ) → eqb a b ≡ eqb b a
-eqb-sym a b = elim (ℕ_discrete a b) [ yes e ↦ eq-eqb a b e ∙ sym (eq-eqb b a (sym e)) | no n ↦ ne_eqb a b n ∙ sym (ne_eqb b a (λ e. n (sym e))) ]
-
 -- ---- a start that passes
 pub start-passes : (file : List ℕ) (n : ℕ) → bad_start file n ≡ false → (12 ≤ length file) × (n ≡ said file)
 unfolding bad_start
 start-passes file n e =
     let o = or-false (ltb (length file) 12) (not (eqb n (said file))) e in
     (ltb-false (length file) 12 o.0, eqb-true n (said file) (not-false (eqb n (said file)) o.1))
-
--- the code's two tests
-pub start-short : (file : List ℕ) (n : ℕ) → length file < 12 → true ≡ bad_start file n
-unfolding bad_start
-start-short file n h = rw (lt-ltb (length file) 12 h, bad_start)
-
-pub start-length : (file : List ℕ) (n k : ℕ) → 12 ≤ length file → k ≡ said file → not (eqb k n) ≡ bad_start file n
-unfolding bad_start
-start-length file n k h e = rw (le-ltb (length file) 12 h, bad_start) (ap not (eqb-sym k n ∙ ap (eqb n) e))
 
 -- ---- the counts
 module _ (f : List ℕ) where
@@ -58,26 +45,6 @@ module _ (f : List ℕ) where
   pub count-0 : (eqb (rows f) 0 || ltb 2000 (rows f)) ≡ false → (ltb 500 (names f) || ltb 8000 (bytes f)) ≡ false → count_refusal f ≡ 0
   unfolding count_refusal
   count-0 t u = rw (t, u, count_refusal)
-
-  -- the code's tests one by one
-  pub refuses-no-rows : rows f ≡ 0 → 1 ≡ count_refusal f
-  refuses-no-rows e = sym (count-1 (rw (eq-eqb (rows f) 0 e)))
-
-  pub refuses-rows : 2000 < rows f → 1 ≡ count_refusal f
-  refuses-rows h = sym (count-1 (rw (lt-ltb 2000 (rows f) h) (or-last (eqb (rows f) 0))))
-
-  module _ (z : rows f ≡ 0 → ⊥) (h : rows f ≤ 2000) where
-    rows-test : (eqb (rows f) 0 || ltb 2000 (rows f)) ≡ false
-    rows-test = rw (ne_eqb (rows f) 0 z, le-ltb 2000 (rows f) h)
-
-    pub refuses-names : 500 < names f → 2 ≡ count_refusal f
-    refuses-names l = sym (count-2 rows-test (rw (lt-ltb 500 (names f) l)))
-
-    pub refuses-bytes : 8000 < bytes f → 2 ≡ count_refusal f
-    refuses-bytes l = sym (count-2 rows-test (rw (lt-ltb 8000 (bytes f) l) (or-last (ltb 500 (names f)))))
-
-    pub refuses-none : names f ≤ 500 → bytes f ≤ 8000 → 0 ≡ count_refusal f
-    refuses-none l m = sym (count-0 rows-test (rw (le-ltb 500 (names f) l, le-ltb 8000 (bytes f) m)))
 
   pub within : count_refusal f ≡ 0 → Within f
   within e = case-of (eqb (rows f) 0 || ltb 2000 (rows f))

@@ -4,7 +4,7 @@
 use mathlib.Core.Path.{◌≡◌, refl, sym, ◌∙◌}
 use mathlib.Core.Bool.{Bool, true, false, ◌||◌}
 use mathlib.Core.List.{List}
-use Prim.Native.Nat.{ℕ, suc, ◌+◌, ◌≤◌, ◌<◌}
+use Prim.Native.Nat.{ℕ, suc, ◌+◌, ◌-◌, ◌*◌, ◌≤◌, ◌<◌}
 use native.Mathlib.Omega.{arith}
 use native.Mathlib.Numerals.{add-one}
 use Rattle.rules.specs.Rows.{row_count, kind, detail, size, end}
@@ -12,7 +12,7 @@ use Rattle.rules.specs.Class.{is_breakable, detail_allowed, class_of, class}
 use Rattle.rules.specs.Body.{Body}
 use Rattle.rules.proofs.Classes.{row-holding}
 use Rattle.breaks.specs.Leaves.{Closed, leaves, any_leaves}
-use Rattle.breaks.proofs.Ranges.{closed-rest, closed-item}
+use Rattle.breaks.proofs.Ranges.{closed-rest, closed-item, closed-below}
 use Rattle.breaks.proofs.Leaving.{any-apart, any_none, any-unnamed, any-leaf, any_below, any_held}
 use Rattle.breaks.proofs.ByWords.{breakable-words, other-no-break}
 
@@ -24,6 +24,13 @@ pub at-branch : {w p b : List ℕ} → Body w p b → (r : ℕ) → r < row_coun
 unfolding class_of
 at-branch {w} {p} {b} body r h q e label implicit f =
     f ∙ sym (any-leaf w p b r label implicit (body.leaf r h (row-holding w r (body.details r h) 11 (sym q ∙ e) refl refl)))
+
+-- the list below a row of size n, in a smaller measure
+pub below : {w p b : List ℕ} → Body w p b → {t r n : ℕ} → 2 * size w r ≡ t → r < row_count w → n ≡ size w r
+    → (2 * (r + n - (r + 1)) + 1 < t) × Closed w (r + 1) (r + n)
+below body {t} {r} m h q =
+    let n = body.sized.some_rows r h in
+    (omega arith, rw (q, add-one r) (closed-below body r h))
 
 -- the row r has the kind k and the size n
 module _ {w p b : List ℕ} (body : Body w p b) {r k n : ℕ} (h : r < row_count w) (kind-is : k ≡ kind w r) (size_is : n ≡ size w r) where
@@ -64,6 +71,13 @@ module _ {w p b : List ℕ} (body : Body w p b) {e label : ℕ} {implicit : Bool
     module _ (l : c < e) where
       row : c < row_count w
       row = omega (arith, a.closed.within)
+
+      -- the item's rows, in a smaller measure
+      pub item-call : {t : ℕ} → 2 * (e - from) + 1 ≡ t → (2 * size w c < t) × (c < row_count w)
+      item-call m =
+          let n = a.closed.ends c (omega arith) l in
+          let k = a.low in
+          (omega arith, row)
 
       apart : any_leaves w p b c e label implicit ≡ (any_leaves w p b c (end w c) label implicit || any_leaves w p b (end w c) e label implicit)
       apart =

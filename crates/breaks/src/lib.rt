@@ -4,88 +4,75 @@
 
 ghost use Rattle.std.specs.Prelude.{◌≡◌, ◌<◌};
 ghost use Rattle.rules.specs.Rows.{row_count, kind, end};
-ghost use Rattle.rules.specs.Body.{Body};
 ghost use Rattle.breaks.specs.Leaves.{Closed, leaves, any_leaves};
 
+use body::Body;
 use names::NameNumber;
-use rows::{RowNumber, details, kinds};
+use rows::kinds::Kind;
+use rows::{RowNumber, details};
 
 // Whether the Branch row is a break that goes to the labelled statement or, where `implicit`, to the
 // closest outer one.
-fn is_break(
-    rows: &[u32],
-    pairs: &[u32],
-    bytes: &[u8],
-    row: RowNumber,
-    label: NameNumber,
-    implicit: bool,
-) -> bool
-    requires { Body rows.now pairs.now bytes.now × (row.0 < row_count rows.now) × (kind rows.now row.0 ≡ 11) }
-    ensures { result ≡ leaves rows.now pairs.now bytes.now row.0 label.0 implicit row.0 }
+fn is_break(body: Body<'_>, row: RowNumber, label: NameNumber, implicit: bool) -> bool
+    requires { (row.0 < row_count body.rows.now) × (kind body.rows.now row.0 ≡ 11) }
+    ensures { result ≡ leaves body.entry.rows.now body.entry.pairs.now body.entry.bytes.now row.0 label.0 implicit row.0 }
 {
-    if rows::detail(rows, row) != details::BREAK {
+    if rows::detail(body.rows, row) != details::BREAK {
         return false;
     }
-    let name = rows::name(rows, row);
+    let name = rows::name(body.rows, row);
     if name.0 == 0 {
         return implicit;
     }
     if label.0 == 0 {
         return false;
     }
-    names::same_name(pairs, bytes, name, label)
+    body.names().same(name, label)
 }
 
 // Whether the statement is or contains a break that refers to the labelled statement around it or,
 // where `implicit`, to the closest outer one that a break can leave.
 #[cycle(has_break_has_break_list)]
-fn has_break(
-    rows: &[u32],
-    pairs: &[u32],
-    bytes: &[u8],
-    row: RowNumber,
-    label: NameNumber,
-    implicit: bool,
-) -> bool
-    requires { Body rows.now pairs.now bytes.now × (row.0 < row_count rows.now) }
-    ensures { result ≡ any_leaves rows.now pairs.now bytes.now row.0 (end rows.now row.0) label.0
-        implicit }
+#[tactic(auto, using(body::proofs::Facts::allowed, body::proofs::Facts::end_fits))]
+fn has_break(body: Body<'_>, row: RowNumber, label: NameNumber, implicit: bool) -> bool
+    requires { row.0 < row_count body.rows.now }
+    ensures { result ≡ any_leaves body.entry.rows.now body.entry.pairs.now body.entry.bytes.now row.0
+        (end body.entry.rows.now row.0) label.0 implicit }
 {
-    let kind = rows::kind(rows, row);
-    if kind == kinds::BRANCH {
-        return is_break(rows, pairs, bytes, row, label, implicit);
+    let kind = rows::kind_at(body.rows, row);
+    if kind == Kind::Branch {
+        return is_break(body, row, label, implicit);
     }
     let first = RowNumber(row.0 + 1);
-    let end = row.0 + rows::size(rows, row);
-    if kinds::is_breakable(kind) {
+    let end = row.0 + rows::size(body.rows, row);
+    if kind.is_breakable() {
         if label.0 == 0 {
             return false;
         }
-        return has_break_list(rows, pairs, bytes, first, end, label, false);
+        return has_break_list(body, first, end, label, false);
     }
-    has_break_list(rows, pairs, bytes, first, end, label, implicit)
+    has_break_list(body, first, end, label, implicit)
 }
 
 #[cycle(has_break_has_break_list)]
+#[tactic(auto, using(body::proofs::Facts::end_fits, body::proofs::Facts::some_rows))]
 pub fn has_break_list(
-    rows: &[u32],
-    pairs: &[u32],
-    bytes: &[u8],
+    body: Body<'_>,
     from: RowNumber,
     end: usize,
     label: NameNumber,
     implicit: bool,
 ) -> bool
-    requires { Body rows.now pairs.now bytes.now × Closed rows.now from.0 end }
-    ensures { result ≡ any_leaves rows.now pairs.now bytes.now from.0 end label.0 implicit }
+    requires { Closed body.rows.now from.0 end }
+    ensures { result ≡ any_leaves body.entry.rows.now body.entry.pairs.now body.entry.bytes.now from.0 end label.0 implicit }
 {
     let mut c = from.0;
     while c < end {
         let item = RowNumber(c);
-        if has_break(rows, pairs, bytes, item, label, implicit) {
+        if has_break(body, item, label, implicit) {
             return true;
         }
-        c = c + rows::size(rows, item);
+        c += rows::size(body.rows, item);
     }
     false
 }

@@ -63,7 +63,7 @@ module _ (p b : List ℕ) (slots s n : ℕ) where
       })
       (λ f. absurd (omega (arith, e ∙ ap word f)))
 
-  module _ (next-in-slot keys numbers : List ℕ) (lk : Linked p b slots n next-in-slot keys numbers) (m : ℕ) (c : Chain p b slots s n m) where
+  module _ (heads next-in-slot keys numbers : List ℕ) (lk : Linked p b slots n heads next-in-slot keys numbers) (m : ℕ) (c : Chain p b slots s n m) where
     -- ---- at a name
     module _ (z : 0 < m) where
       at : Stop p b slots s m c.k

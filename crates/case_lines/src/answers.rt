@@ -1,96 +1,81 @@
 // The answers: what stands on each answer line.
-use body::Checked;
-use label::LabelAnswer;
-use placing::Placing;
-use refusals::Refusal;
-use returns::Verdict;
+use crate::kinds::Question;
 use std::io;
-use testing::show;
+use testing::show::Words;
 
-pub fn refusal(rt: &impl Print, rows: &[u32], pairs: &[u32], bytes: &[u8]) -> io::Result<()> {
-    show::text(rt, b"refusal ")?;
+// The answer to a question about a body.
+pub fn answer(
+    rt: &impl Print,
+    question: Question,
+    rows: &[u32],
+    pairs: &[u32],
+    bytes: &[u8],
+) -> io::Result<()> {
+    match question {
+        Question::Refusal => refusal(rt, rows, pairs, bytes),
+        Question::Placed => placed(rt, rows, pairs, bytes),
+        Question::Verdict => verdict(rt, rows, pairs, bytes),
+        Question::Sheet => sheet(rt, rows, pairs, bytes),
+        Question::Bindings => bindings(rt, rows, pairs, bytes),
+    }
+}
+
+fn refusal(rt: &impl Print, rows: &[u32], pairs: &[u32], bytes: &[u8]) -> io::Result<()> {
     match body::refusal_of(rows, pairs, bytes) {
-        Checked::Refused(r) => show::refusal(rt, r, b""),
-        Checked::WellFormed => show::text(rt, b"ok"),
+        Ok(()) => print!(rt; "refusal ok"),
+        Err(refusal) => print!(rt; "refusal {refusal}"),
     }
 }
 
-fn refused(rt: &impl Print, refusal: Refusal) -> io::Result<()> {
-    show::text(rt, b" refused ")?;
-    show::refusal(rt, refusal, b"")
-}
-
-pub fn placed(rt: &impl Print, rows: &[u32], pairs: &[u32], bytes: &[u8]) -> io::Result<()> {
-    show::text(rt, b"placed")?;
+fn placed(rt: &impl Print, rows: &[u32], pairs: &[u32], bytes: &[u8]) -> io::Result<()> {
     match placing::placing_of(rows, pairs, bytes) {
-        Placing::Refused(r) => refused(rt, r),
-        Placing::Bad(r) => {
-            show::text(rt, b" no ")?;
-            show::number(rt, r.0, b"")
-        }
-        Placing::Well => show::text(rt, b" yes"),
+        Ok(None) => print!(rt; "placed yes"),
+        Ok(Some(row)) => print!(rt; "placed no {}", row.0),
+        Err(refusal) => print!(rt; "placed refused {refusal}"),
     }
 }
 
-pub fn verdict(rt: &impl Print, rows: &[u32], pairs: &[u32], bytes: &[u8]) -> io::Result<()> {
-    show::text(rt, b"verdict")?;
+fn verdict(rt: &impl Print, rows: &[u32], pairs: &[u32], bytes: &[u8]) -> io::Result<()> {
     match returns::verdict_of(rows, pairs, bytes) {
-        Verdict::Refused(r) => refused(rt, r),
-        Verdict::Yes => show::text(rt, b" yes"),
-        Verdict::No => show::text(rt, b" no"),
+        Ok(true) => print!(rt; "verdict yes"),
+        Ok(false) => print!(rt; "verdict no"),
+        Err(refusal) => print!(rt; "verdict refused {refusal}"),
     }
 }
 
-// A row of the sheet, if there is such a row, after a comma unless it is the first.
-fn sheet_row(rt: &impl Print, sheet: &[u32], row: usize) -> io::Result<()> {
-    if 0 < row {
-        show::text(rt, b",")?;
-    }
-    if row < sheet.len() / 4 {
-        show::text(rt, b" ")?;
-        show::words(rt, &sheet[row * 4..row * 4 + 4], b"")?;
-    }
-    Ok(())
-}
-
+// The rows of the sheet, with a comma between them.
 fn sheet_rows(rt: &impl Print, sheet: &[u32], count: usize) -> io::Result<()> {
     if count == 0 {
-        show::text(rt, b" none")?;
+        return print!(rt; " none");
     }
-    let mut row = 0;
-    while row < count {
-        sheet_row(rt, sheet, row)?;
-        row += 1;
-    }
-    Ok(())
-}
-
-pub fn sheet(rt: &impl Print, rows: &[u32], pairs: &[u32], bytes: &[u8]) -> io::Result<()> {
-    let mut sheet = [0u32; 1024];
-    let mut bindings = [0u32; 128];
-    show::text(rt, b"sheet")?;
-    match label::labels(rows, pairs, bytes, &mut sheet, &mut bindings) {
-        LabelAnswer::Refused(r) => refused(rt, r),
-        LabelAnswer::Faults(n) => sheet_rows(rt, &sheet, n),
-    }
-}
-
-// The words of the first `count` rows, if there are so many.
-fn first(rt: &impl Print, bindings: &[u32], count: usize) -> io::Result<()> {
-    if count <= bindings.len() {
-        show::text(rt, b" ")?;
-        show::words(rt, &bindings[0..count], b"")?;
+    for (i, row) in sheet.chunks_exact(4).take(count).enumerate() {
+        if 0 < i {
+            print!(rt; ",")?;
+        }
+        print!(rt; " {}", Words(row))?;
     }
     Ok(())
 }
 
-pub fn bindings(rt: &impl Print, rows: &[u32], pairs: &[u32], bytes: &[u8]) -> io::Result<()> {
-    let count = rows.len() / 5;
+fn sheet(rt: &impl Print, rows: &[u32], pairs: &[u32], bytes: &[u8]) -> io::Result<()> {
     let mut sheet = [0u32; 1024];
     let mut bindings = [0u32; 128];
-    show::text(rt, b"bindings")?;
+    print!(rt; "sheet")?;
     match label::labels(rows, pairs, bytes, &mut sheet, &mut bindings) {
-        LabelAnswer::Refused(r) => refused(rt, r),
-        LabelAnswer::Faults(_) => first(rt, &bindings, count),
+        Ok(faults) => sheet_rows(rt, &sheet, faults),
+        Err(refusal) => print!(rt; " refused {refusal}"),
+    }
+}
+
+fn bindings(rt: &impl Print, rows: &[u32], pairs: &[u32], bytes: &[u8]) -> io::Result<()> {
+    let mut sheet = [0u32; 1024];
+    let mut bindings = [0u32; 128];
+    print!(rt; "bindings")?;
+    match label::labels(rows, pairs, bytes, &mut sheet, &mut bindings) {
+        Ok(_) => match bindings.get(..rows.len() / 5) {
+            Some(words) => print!(rt; " {}", Words(words)),
+            None => Ok(()),
+        },
+        Err(refusal) => print!(rt; " refused {refusal}"),
     }
 }

@@ -1,64 +1,72 @@
 // What a line of the list is.
-use testing::words;
-
-#[derive(Clone, Copy)]
-pub enum Kind {
-    Rows,
-    Pairs,
-    Bytes,
+// What an answer line asks for.
+#[derive(Clone, Copy, Debug, PartialEq, Eq)]
+pub enum Question {
     Refusal,
     Placed,
     Verdict,
     Sheet,
     Bindings,
-    Walk,
+}
+
+// A line, with what stands after its first word.
+#[derive(Clone, Copy, Debug, PartialEq, Eq)]
+pub enum Kind<'l> {
+    Rows(&'l [u8]),
+    Pairs(&'l [u8]),
+    Bytes(&'l [u8]),
+    Asks(Question),
+    Walk(&'l [u8]),
     Empty,
     Remark,
 }
 
-fn first_word_is(line: &[u8], word: &[u8]) -> bool {
-    let n = word.len();
-    if line.len() < n {
-        return false;
+// What stands after the first word of the line, if that is this one: nothing, or a blank and more.
+fn after<'l>(line: &'l [u8], word: &[u8]) -> Option<&'l [u8]> {
+    let rest = line.strip_prefix(word)?;
+    match rest.first() {
+        None | Some(b' ') => Some(rest),
+        Some(_) => None,
     }
-    if n < line.len() {
-        if line[n] != 32 {
-            return false;
-        }
-    }
-    names::order::same_bytes(&line[0..n], word)
 }
 
-pub fn kind_of(line: &[u8]) -> Kind {
-    if line.len() == 0 {
-        return Kind::Empty;
+// The answer that a line asks for.
+fn question_of(line: &[u8]) -> Option<Question> {
+    if after(line, b"refusal").is_some() {
+        return Some(Question::Refusal);
     }
-    if words::digit_at(line, 0) < 10 {
-        return Kind::Rows;
+    if after(line, b"placed").is_some() {
+        return Some(Question::Placed);
     }
-    if first_word_is(line, b"pairs") {
-        return Kind::Pairs;
+    if after(line, b"verdict").is_some() {
+        return Some(Question::Verdict);
     }
-    if first_word_is(line, b"bytes") {
-        return Kind::Bytes;
+    if after(line, b"sheet").is_some() {
+        return Some(Question::Sheet);
     }
-    if first_word_is(line, b"refusal") {
-        return Kind::Refusal;
+    if after(line, b"bindings").is_some() {
+        return Some(Question::Bindings);
     }
-    if first_word_is(line, b"placed") {
-        return Kind::Placed;
+    None
+}
+
+pub fn kind_of(line: &[u8]) -> Kind<'_> {
+    match line.first() {
+        None => return Kind::Empty,
+        Some(b'0'..=b'9') => return Kind::Rows(line),
+        Some(_) => (),
     }
-    if first_word_is(line, b"verdict") {
-        return Kind::Verdict;
+    if let Some(rest) = after(line, b"pairs") {
+        return Kind::Pairs(rest);
     }
-    if first_word_is(line, b"sheet") {
-        return Kind::Sheet;
+    if let Some(rest) = after(line, b"bytes") {
+        return Kind::Bytes(rest);
     }
-    if first_word_is(line, b"bindings") {
-        return Kind::Bindings;
+    if let Some(rest) = after(line, b"walk") {
+        return Kind::Walk(rest);
     }
-    if first_word_is(line, b"walk") {
-        return Kind::Walk;
+    match question_of(line) {
+        Some(question) => Kind::Asks(question),
+        None => Kind::Remark,
     }
-    Kind::Remark
 }

@@ -1,44 +1,24 @@
 // The walks: a line names a limit and choices before its colon, and the answer stands after it.
-ghost use Rattle.std.specs.Prelude.{◌≡◌};
-
-use crate::scan;
-use runner::{Place, WalkAnswer, WalkEnd};
+use refusals::Refusal;
+use runner::{Place, WalkEnd};
 use std::io;
-use testing::{show, words};
-
-fn place(rt: &impl Print, place: Place) -> io::Result<()> {
-    match place {
-        Place::Stopped => show::text(rt, b" stopped, "),
-        Place::Brace => show::text(rt, b" brace, "),
-        Place::Row(r) => {
-            show::text(rt, b" row ")?;
-            show::number(rt, r.0, b", ")
-        }
-    }
-}
+use testing::words;
 
 fn end(rt: &impl Print, end: WalkEnd) -> io::Result<()> {
-    let reached = end.place;
-    place(rt, reached)?;
-    show::number(rt, end.steps, b" steps, ")?;
-    show::number(rt, end.used, b" used")
+    match end.place {
+        Place::Stopped => print!(rt; " stopped")?,
+        Place::Brace => print!(rt; " brace")?,
+        Place::Row(row) => print!(rt; " row {}", row.0)?,
+    }
+    print!(rt; ", {} steps, {} used", end.steps, end.used)
 }
 
 // The answer, after a blank.
-pub fn answer(rt: &impl Print, answer: WalkAnswer) -> io::Result<()> {
+pub fn answer(rt: &impl Print, answer: Result<WalkEnd, Refusal>) -> io::Result<()> {
     match answer {
-        WalkAnswer::Refused(r) => {
-            show::text(rt, b" refused ")?;
-            show::refusal(rt, r, b"")
-        }
-        WalkAnswer::Reached(reached) => end(rt, reached),
+        Ok(reached) => end(rt, reached),
+        Err(refusal) => print!(rt; " refused {refusal}"),
     }
-}
-
-fn wide(word: u32) -> usize
-    ensures { result ≡ word }
-{
-    word as usize
 }
 
 // The walk by the numbers asked: the limit, then the choices.
@@ -49,39 +29,25 @@ fn walk_by(
     pairs: &[u32],
     bytes: &[u8],
 ) -> io::Result<()> {
-    if 0 < asked.len() {
-        let limit = wide(asked[0]);
-        answer(rt, runner::walk(rows, pairs, bytes, &asked[1..], limit))?;
-    }
-    Ok(())
+    let Some((limit, choices)) = asked.split_first() else {
+        return Ok(());
+    };
+    let walked = runner::walk(rows, pairs, bytes, choices, *limit as usize);
+    answer(rt, walked)
 }
 
-// The walk by the numbers of a line.
-fn walk_asked(
+// The walk that the numbers of a line ask for.
+pub fn walk(
     rt: &impl Print,
-    line: &[u8],
+    numbers: &[u8],
     rows: &[u32],
     pairs: &[u32],
     bytes: &[u8],
 ) -> io::Result<()> {
     let mut asked = [0u32; 32];
-    let count = words::append(&mut asked, 0, line, 5);
-    if count <= 32 {
-        walk_by(rt, &asked[0..count], rows, pairs, bytes)
-    } else {
-        show::text(rt, b" not taken")
+    let count = words::append(&mut asked, 0, numbers);
+    match count.and_then(|n| asked.get(..n)) {
+        Some(asked) => walk_by(rt, asked, rows, pairs, bytes),
+        None => print!(rt; " not taken"),
     }
-}
-
-pub fn walk(
-    rt: &impl Print,
-    line: &[u8],
-    rows: &[u32],
-    pairs: &[u32],
-    name_bytes: &[u8],
-) -> io::Result<()> {
-    let colon = scan::find(line, 0, b':');
-    show::text(rt, &line[0..colon])?;
-    show::text(rt, b":")?;
-    walk_asked(rt, &line[0..colon], rows, pairs, name_bytes)
 }

@@ -5,7 +5,7 @@
 ghost use Rattle.std.specs.Prelude.{◌≡◌};
 ghost use Rattle.context.specs.Fields.{with_latest, with_label};
 
-#[derive(Clone, Copy)]
+#[derive(Clone, Copy, Debug, PartialEq, Eq)]
 pub struct Context {
     pub latest: usize,
     pub label: usize,
@@ -26,19 +26,17 @@ pub fn set_label(ctx: &mut Context, word: usize)
 }
 
 // `record_var_decl` by value: it is lent a local.
-pub fn declared(ctx: Context, word: usize) -> Context
+pub fn declared(mut ctx: Context, word: usize) -> Context
     ensures { result ≡ with_latest ctx word }
 {
-    let mut c = ctx;
-    record_var_decl(&mut c, word);
-    c
+    record_var_decl(&mut ctx, word);
+    ctx
 }
 
 // `set_label` by value: it is lent a local.
-pub fn labelled(ctx: Context, word: usize) -> Context
+pub fn labelled(mut ctx: Context, word: usize) -> Context
     ensures { result ≡ with_label ctx word }
 {
-    let mut c = ctx;
-    set_label(&mut c, word);
-    c
+    set_label(&mut ctx, word);
+    ctx
 }

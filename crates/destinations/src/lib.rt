@@ -12,12 +12,27 @@ ghost use Rattle.parents.specs.Parents.{Parents};
 ghost use Rattle.afters.specs.Afters.{Afters};
 ghost use Rattle.destinations.specs.Destinations.{Bound, Tables, Destinations};
 
-use rows::{RowNumber, details, kinds};
+use body::Body;
+use rows::kinds::Kind;
+use rows::{RowNumber, details};
 
-fn wide(number: u16) -> usize
-    ensures { result ≡ number }
-{
-    number as usize
+// A well-formed body with an empty sheet and good placing, and its bindings.
+#[derive(Clone, Copy)]
+pub struct FaultlessBody<'a> {
+    pub body: Body<'a>,
+    pub bindings: &'a [u32],
+    ghost faultless: { Faultless body.rows.now body.pairs.now body.bytes.now },
+    ghost bound: { Bound body.rows.now body.pairs.now body.bytes.now bindings.now },
+}
+
+// What a Branch goes by, a word a row: the place after the row, and 1 + the innermost statement that a
+// break leaves, loop and Case around it, or 0.
+#[derive(Clone, Copy)]
+struct Around<'t> {
+    afters: &'t [u16],
+    breakables: &'t [u16],
+    loops: &'t [u16],
+    cases: &'t [u16],
 }
 
 // The row after the label of binding word `binding`, which is the word's own number, or the row of
@@ -27,37 +42,28 @@ fn statement(binding: u32, inner: u16) -> usize
     ensures { result ≡ elim binding [ zero ↦ inner - 1 | suc t ↦ suc t ] }
 {
     if binding == 0 {
-        return wide(inner) - 1;
+        return usize::from(inner) - 1;
     }
     binding as usize
 }
 
 // The place that the Branch goes to.
-fn destination(
-    rows: &[u32],
-    pairs: &[u32],
-    bytes: &[u8],
-    bindings: &[u32],
-    afters: &[u16],
-    breakables: &[u16],
-    loops: &[u16],
-    cases: &[u16],
-    r: usize,
-) -> usize
-    requires tables { Tables rows.now pairs.now bytes.now bindings.now afters.now breakables.now loops.now cases.now }
-    requires r_bound { (r < row_count rows.now) × (kind rows.now r ≡ 11) }
-    ensures { (step rows.now pairs.now bytes.now (at r) 0 ≡ some (place_of result)) × (result < 65536) }
+fn destination(faultless: FaultlessBody<'_>, around: Around<'_>, r: usize) -> usize
+    requires tables { Tables faultless.body.rows.now faultless.body.pairs.now faultless.body.bytes.now faultless.bindings.now around.afters.now around.breakables.now around.loops.now around.cases.now }
+    requires r_bound { (r < row_count faultless.body.rows.now) × (kind faultless.body.rows.now r ≡ 11) }
+    ensures { (step faultless.entry.body.rows.now faultless.entry.body.pairs.now faultless.entry.body.bytes.now (at r) 0 ≡ some (place_of result)) × (result < 65536) }
 {
-    let binding = bindings[r];
+    let rows = faultless.body.rows;
+    let binding = faultless.bindings[r];
     match rows::detail(rows, RowNumber(r)) {
         details::BREAK => {
-            let left = statement(binding, breakables[r]);
-            wide(afters[left])
+            let left = statement(binding, around.breakables[r]);
+            usize::from(around.afters[left])
         }
-        details::CONTINUE => statement(binding, loops[r]) + 2,
+        details::CONTINUE => statement(binding, around.loops[r]) + 2,
         details::GOTO => binding as usize + 1,
         _ => {
-            let case = wide(cases[r]) - 1;
+            let case = usize::from(around.cases[r]) - 1;
             let next = case + rows::size(rows, RowNumber(case));
             next + 2
         }
@@ -65,62 +71,45 @@ fn destination(
 }
 
 // Writes the place that each Branch goes to, by the tables of the rows around each row.
-fn write_destinations(
-    rows: &[u32],
-    pairs: &[u32],
-    bytes: &[u8],
-    bindings: &[u32],
-    afters: &[u16],
-    breakables: &[u16],
-    loops: &[u16],
-    cases: &[u16],
-    destinations: &mut [u16],
-)
-    requires tables { Tables rows.now pairs.now bytes.now bindings.now afters.now breakables.now loops.now cases.now }
-    requires rows_in_bounds { row_count rows.now ≤ length destinations.old }
-    ensures { Destinations rows.now pairs.now bytes.now destinations.new }
+fn write_destinations(faultless: FaultlessBody<'_>, around: Around<'_>, destinations: &mut [u16])
+    requires tables { Tables faultless.body.rows.now faultless.body.pairs.now faultless.body.bytes.now faultless.bindings.now around.afters.now around.breakables.now around.loops.now around.cases.now }
+    requires rows_in_bounds { row_count faultless.body.rows.now ≤ length destinations.old }
+    ensures { Destinations faultless.entry.body.rows.now faultless.entry.body.pairs.now faultless.entry.body.bytes.now destinations.new }
 {
-    let count = rows.len() / 5;
-    let mut r = 0;
-    while r < count {
-        if rows::kind(rows, RowNumber(r)) == kinds::BRANCH {
-            let place = destination(
-                rows, pairs, bytes, bindings, afters, breakables, loops, cases, r,
-            );
-            destinations[r] = place as u16;
+    let rows = faultless.body.rows;
+    for r in 0..rows.len() / 5 {
+        if rows::kind_at(rows, RowNumber(r)) == Kind::Branch {
+            destinations[r] = destination(faultless, around, r) as u16;
         }
-        r += 1;
     }
 }
 
 // Writes the place that each Branch goes to, at its own row.
 pub fn destinations_of(
-    rows: &[u32],
-    pairs: &[u32],
-    bytes: &[u8],
-    bindings: &[u32],
+    faultless: FaultlessBody<'_>,
     parents: &[u16],
     afters: &[u16],
     destinations: &mut [u16],
 )
-    requires faultless { Faultless rows.now pairs.now bytes.now × Bound rows.now pairs.now bytes.now bindings.now }
-    requires parents { Parents rows.now parents.now × Afters rows.now afters.now }
-    requires rows_in_bounds { (row_count rows.now ≤ length parents.now) × (row_count rows.now ≤ length afters.now) × (row_count rows.now ≤ length destinations.old) }
-    ensures { Destinations rows.now pairs.now bytes.now destinations.new }
+    requires parents { Parents faultless.body.rows.now parents.now × Afters faultless.body.rows.now afters.now }
+    requires rows_in_bounds { (row_count faultless.body.rows.now ≤ length parents.now) × (row_count faultless.body.rows.now ≤ length afters.now) × (row_count faultless.body.rows.now ≤ length destinations.old) }
+    ensures { Destinations faultless.entry.body.rows.now faultless.entry.body.pairs.now faultless.entry.body.bytes.now destinations.new }
 {
     let mut breakables = [0u16; 2000];
     let mut loops = [0u16; 2000];
     let mut cases = [0u16; 2000];
-    enclosing::enclosing_of(rows, parents, &mut breakables, &mut loops, &mut cases);
-    write_destinations(
-        rows,
-        pairs,
-        bytes,
-        bindings,
-        afters,
-        &breakables,
-        &loops,
-        &cases,
-        destinations,
+    enclosing::enclosing_of(
+        faultless.body.rows,
+        parents,
+        &mut breakables,
+        &mut loops,
+        &mut cases,
     );
+    let around = Around {
+        afters,
+        breakables: &breakables,
+        loops: &loops,
+        cases: &cases,
+    };
+    write_destinations(faultless, around, destinations);
 }

@@ -10,17 +10,15 @@ ghost use Rattle.rules.specs.Body.{Formed};
 ghost use Rattle.parents.specs.Parents.{Parents};
 ghost use Rattle.enclosing.specs.Enclosing.{Enclosing};
 
-use rows::{RowNumber, kinds};
+use rows::RowNumber;
+use rows::kinds::Kind;
 
 // 1 + the parent p, if it is such a row, else the parent's own word.
 fn from_parent(is_one: bool, p: usize, above: u16) -> u16
     requires { p ≤ 2000 }
     ensures { result ≡ elim is_one [ true ↦ suc p | false ↦ above ] }
 {
-    if is_one {
-        return (p + 1) as u16;
-    }
-    above
+    if is_one { (p + 1) as u16 } else { above }
 }
 
 // Writes for each row 1 + the innermost such row around it, or 0.
@@ -37,19 +35,16 @@ pub fn enclosing_of(
     ensures loops { Enclosing rows.now is_loop loops.new }
     ensures cases { Enclosing rows.now is_case cases.new }
 {
-    let count = rows.len() / 5;
     breakables[0] = 0;
     loops[0] = 0;
     cases[0] = 0;
-    let mut r = 1;
-    while r < count {
-        let p = parents[r] as usize - 1;
-        let kind = rows::kind(rows, RowNumber(p));
-        let is_breakable = kinds::is_breakable(kind);
-        let is_loop = kinds::is_loop(kind);
+    for r in 1..rows.len() / 5 {
+        let p = usize::from(parents[r]) - 1;
+        let kind = rows::kind_at(rows, RowNumber(p));
+        let is_breakable = kind.is_breakable();
+        let is_loop = kind.is_loop();
         breakables[r] = from_parent(is_breakable, p, breakables[p]);
         loops[r] = from_parent(is_loop, p, loops[p]);
-        cases[r] = from_parent(kind == kinds::CASE, p, cases[p]);
-        r += 1;
+        cases[r] = from_parent(kind == Kind::Case, p, cases[p]);
     }
 }

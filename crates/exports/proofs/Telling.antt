@@ -1,5 +1,5 @@
--- What a call answers is told as two numbers: equal answers are told alike. A row badly placed is one of the body's rows, so that 1 more fits a word;
--- so is a row that a walk comes to, and 2 more fits.
+-- A row badly placed is one of the body's rows, so that 1 more fits a word; so is a row that a walk comes to, and 2 more fits. A name's part is told by
+-- its pair.
 -- Assumes nothing.
 use mathlib.Core.Path.{◌≡◌, refl, sym, ◌∙◌, ap}
 use mathlib.Core.Bool.{Bool, true, false, ◌&&◌}
@@ -24,10 +24,13 @@ use Rattle.rules.proofs.Scan.{lowest-found}
 use Rattle.rules.proofs.Test.{case-of, clash, and-true}
 use Rattle.rules.proofs.Walking.{place_inside}
 use Rattle.marking.specs.Marks.{together, marks_call}
-use Rattle.exports.specs.Told.{placed_word, told_marks, told_walk, told_name}
+use Rattle.exports.specs.Told.{placed_word, told_name}
 
-pub tells : {A : Type 0} (told : A → ℕ × ℕ) {o call : A} {n v : ℕ} → n ≡ (told o).0 → v ≡ (told o).1 → o ≡ call → (n ≡ (told call).0) × (v ≡ (told call).1)
-tells told f g e = (f ∙ ap (λ x. (told x).0) e, g ∙ ap (λ x. (told x).1) e)
+abbrev pub first : ℕ × ℕ → ℕ
+first x = x.0
+
+abbrev pub second : ℕ × ℕ → ℕ
+second x = x.1
 
 -- ---- the row badly placed
 abbrev is_answered : Answer (Option ℕ) → ℕ
@@ -56,46 +59,26 @@ small_word w p b none e = omega arith
 small_word w p b (some r) e = omega (arith, small_row w p b r e)
 
 -- ---- the marks
-pub tells-marks : (x y : ℕ) {o call : Answer (ℕ × Option ℕ × Bool)} {n v p t : ℕ} → n ≡ (told_marks x y o).0 → v ≡ (told_marks x y o).1 → p ≡ (told_marks x y o).2
-    → t ≡ (told_marks x y o).3 → o ≡ call
-    → (n ≡ (told_marks x y call).0) × (v ≡ (told_marks x y call).1) × (p ≡ (told_marks x y call).2) × (t ≡ (told_marks x y call).3)
-tells-marks x y f g h i e = (
-  f ∙ ap (λ a. (told_marks x y a).0) e,
-  g ∙ ap (λ a. (told_marks x y a).1) e,
-  h ∙ ap (λ a. (told_marks x y a).2) e,
-  i ∙ ap (λ a. (told_marks x y a).3) e,
-)
-
 -- an answer of the three together has that of the placing call in it
-abbrev second : Answer (ℕ × Option ℕ × Bool) → Answer (Option ℕ)
-second (refused n i) = refused n i
-second (answered m) = answered m.1
+abbrev placing_of : Answer (ℕ × Option ℕ × Bool) → Answer (Option ℕ)
+placing_of (refused n i) = refused n i
+placing_of (answered m) = answered m.1
 
 abbrev is_whole : Answer (ℕ × Option ℕ × Bool) → ℕ
 is_whole (refused n i) = 0
 is_whole (answered m) = 1
 
-together-second : (a : Answer ℕ) (x : Answer (Option ℕ)) (y : Answer Bool) (m : ℕ × Option ℕ × Bool) → answered m ≡ together a x y → answered m.1 ≡ x
-together-second (refused n i) x y m e = absurd (clash (sym (ap is_whole e)))
-together-second (answered c) (refused n i) y m e = absurd (clash (sym (ap is_whole e)))
-together-second (answered c) (answered o) (refused n i) m e = absurd (clash (sym (ap is_whole e)))
-together-second (answered c) (answered o) (answered v) m e = ap second e
+together-placing : (a : Answer ℕ) (x : Answer (Option ℕ)) (y : Answer Bool) (m : ℕ × Option ℕ × Bool) → answered m ≡ together a x y → answered m.1 ≡ x
+together-placing (refused n i) x y m e = absurd (clash (sym (ap is_whole e)))
+together-placing (answered c) (refused n i) y m e = absurd (clash (sym (ap is_whole e)))
+together-placing (answered c) (answered o) (refused n i) m e = absurd (clash (sym (ap is_whole e)))
+together-placing (answered c) (answered o) (answered v) m e = ap placing_of e
 
 pub marks-small : (w p b s t : List ℕ) (m : ℕ × Option ℕ × Bool) → answered m ≡ marks_call w p b s t → placed_word m.1 ≤ 2000
 unfolding marks_call
-marks-small w p b s t m e = small_word w p b m.1 (together-second (label_call w p b s t).answer (placing_call w p b) (verdict_call w p b) m e)
+marks-small w p b s t m e = small_word w p b m.1 (together-placing (label_call w p b s t).answer (placing_call w p b) (verdict_call w p b) m e)
 
 -- ---- the walk
-pub tells-walk : (x y : ℕ) {o call : Answer Walked} {n v m k : ℕ} → n ≡ (told_walk x y o).0 → v ≡ (told_walk x y o).1 → m ≡ (told_walk x y o).2
-    → k ≡ (told_walk x y o).3 → o ≡ call
-    → (n ≡ (told_walk x y call).0) × (v ≡ (told_walk x y call).1) × (m ≡ (told_walk x y call).2) × (k ≡ (told_walk x y call).3)
-tells-walk x y f g h i e = (
-  f ∙ ap (λ a. (told_walk x y a).0) e,
-  g ∙ ap (λ a. (told_walk x y a).1) e,
-  h ∙ ap (λ a. (told_walk x y a).2) e,
-  i ∙ ap (λ a. (told_walk x y a).3) e,
-)
-
 -- the place is inside the body, so that 2 more than its row fits a word
 small-place : (w p b : List ℕ) → Faultless w p b → (s : State) → Inside w s → place_word s ≤ 2001
 small-place w p b g (at r) i = omega (arith, i.0, (body w p b g.well_formed).most_rows)

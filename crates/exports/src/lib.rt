@@ -7,24 +7,32 @@ ghost use Rattle.std.specs.Prelude.{◌≡◌, ◌≤◌};
 ghost use Rattle.rules.specs.Refusals.{refusal};
 ghost use Rattle.rules.specs.Calls.{placing_call, verdict_call, label_call};
 ghost use Rattle.rules.specs.Walking.{place_word, walk_call};
-ghost use Rattle.names.specs.Place.{place};
+ghost use Rattle.rows.specs.Found.{row_found};
+ghost use Rattle.refusals.specs.Returned.{returned};
 ghost use Rattle.marking.specs.Marks.{marks_call};
 ghost use Rattle.runner.specs.Given.{state_of};
 ghost use Rattle.exports.specs.Told.{told_refusal, told_count, placed_word, told_placing, verdict_word, told_verdict, told_marks, told_walk, told_name};
 
-use body::Checked;
-use label::LabelAnswer;
-use marking::Marking;
-use names::Found;
-use placing::Placing;
-use refusals::{index_of, number_of};
-use returns::Verdict;
-use runner::{Place, WalkAnswer};
+use refusals::Refusal;
+use rows::RowNumber;
+use runner::Place;
 
-fn wide(word: u32) -> usize
-    ensures { result ≡ word }
+// A refusal as a call returns it: its index through `value`, and its number.
+fn refused(refusal: Refusal, value: &mut usize) -> u32
+    ensures number { result ≡ (returned refusal).0 }
+    ensures value { value.new ≡ (returned refusal).1 }
 {
-    word as usize
+    *value = refusal.index();
+    refusal.number()
+}
+
+// An answer as a call returns it: the answer through `value`, and 0 for no refusal.
+fn answered(answer: usize, value: &mut usize) -> u32
+    ensures number { result ≡ 0 }
+    ensures value { value.new ≡ answer }
+{
+    *value = answer;
+    0
 }
 
 // The refusal of the body.
@@ -39,14 +47,8 @@ pub extern "C" fn zesthull_refusal(
     ensures value { value.new ≡ (told_refusal (refusal rows.now pairs.now bytes.now)).1 }
 {
     match body::refusal_of(rows, pairs, bytes) {
-        Checked::Refused(r) => {
-            *value = index_of(r);
-            number_of(r)
-        }
-        Checked::WellFormed => {
-            *value = 0;
-            0
-        }
+        Ok(()) => answered(0, value),
+        Err(refusal) => refused(refusal, value),
     }
 }
 
@@ -70,14 +72,8 @@ pub extern "C" fn zesthull_labels(
         bindings.old).binding_words }
 {
     match label::labels(rows, pairs, bytes, sheet, bindings) {
-        LabelAnswer::Refused(r) => {
-            *value = index_of(r);
-            number_of(r)
-        }
-        LabelAnswer::Faults(n) => {
-            *value = n;
-            0
-        }
+        Ok(faults) => answered(faults, value),
+        Err(refusal) => refused(refusal, value),
     }
 }
 
@@ -93,18 +89,8 @@ pub extern "C" fn zesthull_placing(
     ensures value { value.new ≡ (told_placing (placing_call rows.now pairs.now bytes.now)).1 }
 {
     match reader::ask_placing(rows, pairs, bytes) {
-        Placing::Refused(r) => {
-            *value = index_of(r);
-            number_of(r)
-        }
-        Placing::Bad(row) => {
-            *value = row.0 + 1;
-            0
-        }
-        Placing::Well => {
-            *value = 0;
-            0
-        }
+        Ok(placed) => answered(placed_word(placed), value),
+        Err(refusal) => refused(refusal, value),
     }
 }
 
@@ -120,35 +106,19 @@ pub extern "C" fn zesthull_verdict(
     ensures value { value.new ≡ (told_verdict (verdict_call rows.now pairs.now bytes.now)).1 }
 {
     match reader::ask_verdict(rows, pairs, bytes) {
-        Verdict::Refused(r) => {
-            *value = index_of(r);
-            number_of(r)
-        }
-        Verdict::Yes => {
-            *value = 1;
-            0
-        }
-        Verdict::No => {
-            *value = 0;
-            0
-        }
+        Ok(terminating) => answered(usize::from(terminating), value),
+        Err(refusal) => refused(refusal, value),
     }
 }
 
-fn placed_word(placed: Found) -> usize
-    requires { placed_word (place placed) ≤ 2000 }
-    ensures { result ≡ placed_word (place placed) }
+fn placed_word(placed: Option<RowNumber>) -> usize
+    requires { placed_word (row_found placed) ≤ 2000 }
+    ensures { result ≡ placed_word (row_found placed) }
 {
     match placed {
-        Found::At(row) => row + 1,
-        Found::Nowhere => 0,
+        Some(row) => row.0 + 1,
+        None => 0,
     }
-}
-
-fn verdict_word(terminating: bool) -> usize
-    ensures { result ≡ verdict_word terminating }
-{
-    if terminating { 1 } else { 0 }
 }
 
 // The label, placing and verdict calls in one, after one look for refusals. The value is the sheet's
@@ -178,17 +148,12 @@ pub extern "C" fn zesthull_marks(
         bindings.old).binding_words }
 {
     match marking::mark(rows, pairs, bytes, sheet, bindings) {
-        Marking::Refused(r) => {
-            *value = index_of(r);
-            number_of(r)
+        Ok(marks) => {
+            *placing = placed_word(marks.placed);
+            *verdict = usize::from(marks.terminating);
+            answered(marks.faults, value)
         }
-        Marking::Marked(m) => {
-            let placed = m.placed;
-            *value = m.faults;
-            *placing = placed_word(placed);
-            *verdict = verdict_word(m.terminating);
-            0
-        }
+        Err(refusal) => refused(refusal, value),
     }
 }
 
@@ -225,17 +190,12 @@ pub extern "C" fn zesthull_walk(
         (walk_call rows.now pairs.now bytes.now choices.now limit)).3 }
 {
     match runner::walk(rows, pairs, bytes, choices, limit) {
-        WalkAnswer::Refused(r) => {
-            *value = index_of(r);
-            number_of(r)
-        }
-        WalkAnswer::Reached(end) => {
-            let place = end.place;
-            *value = place_word(place);
+        Ok(end) => {
             *steps = end.steps;
             *used = end.used;
-            0
+            answered(place_word(end.place), value)
         }
+        Err(refusal) => refused(refusal, value),
     }
 }
 
@@ -262,8 +222,8 @@ pub extern "C" fn zesthull_name(
         return 0;
     }
     let at = (number - 1) * 2;
-    *offset = wide(pairs[at]);
-    wide(pairs[at + 1])
+    *offset = pairs[at] as usize;
+    pairs[at + 1] as usize
 }
 
 // The version of the calls: this is its one place. CHANGELOG.md says what each version changed.

@@ -1,7 +1,7 @@
 -- That the whole input is counted: what was counted and what is left are together as long as the input was, so that nothing is left where the count ends, unless
 -- it ended at 2^37 bytes. And that the first bytes and the count give what `marks` prints for the file: an input past the count is refused whatever its length.
 -- Assumes nothing.
-use mathlib.Core.Path.{◌≡◌, refl, sym, ◌∙◌, ap, subst}
+use mathlib.Core.Path.{◌≡◌, sym, ◌∙◌, ap, subst}
 use mathlib.Core.Bool.{Bool, true}
 use mathlib.Core.Logic.{◌⊎◌, inl, inr}
 use mathlib.Core.List.{List, [], ◌++◌, append-nil}
@@ -26,10 +26,6 @@ Counting before None now n ended = Unit {0}
 Counting before (Some xs) None n ended = ⊥
 Counting before (Some xs) (Some ys) n ended = (n + length ys ≡ before + length xs) × (ended ≡ true → (ys ≡ []) ⊎ (uncounted ≤ n))
 
-pub begun : (n : ℕ) (a : Option (List ℕ)) (ended : Bool) → (ended ≡ true → IsAtEnd a) → Counting n a a n ended
-begun n None ended p = tt
-begun n (Some xs) ended p = (refl, λ e. inl (p e))
-
 -- a read that is the last found the end, or came to 2^37 bytes
 last : (ys : List ℕ) (n got room : ℕ) → (got < room → ys ≡ []) → is_last n (record { got = got; room = room }) ≡ true → (ys ≡ []) ⊎ (uncounted ≤ n)
 last ys n got room at_end e = elim (dec_lt n uncounted) [
@@ -45,14 +41,6 @@ one_more before (Some xs) (Some ys) None n m got room was ended bs h k l at_end 
 one_more before (Some xs) (Some ys) (Some zs) n m got room was ended bs h k l at_end e f =
     let long : length ys ≡ length bs + length zs = ap length k ∙ length-append bs zs in
     (omega (arith, h.0), λ t. subst (λ (i : ℕ). (zs ≡ []) ⊎ (uncounted ≤ i)) (sym e) (last zs (n + got) got room at_end (sym f ∙ t)))
-
-pub counted : (before : ℕ) (a b : Option (List ℕ)) (n : ℕ) (ended : Bool) → Counting before a b n ended → ended ≡ true → IsLength before a n
-counted before None b n ended h e = tt
-counted before (Some xs) None n ended h e = absurd h
-counted before (Some xs) (Some ys) n ended h e = elim (h.1 e) [
-  | inl z ↦ inl (omega (arith, h.0, ap length z))
-  | inr u ↦ inr (u, omega (arith, h.0))
-]
 
 -- ---- the first read: it ends the input where it doesn't fill its room
 pub first_ends : (b : Option (List ℕ)) (n got room : ℕ) (ended : Bool) → n < uncounted → (got < room → IsAtEnd b)

@@ -7,13 +7,9 @@ use mathlib.Core.List.{List, [], ◌∷◌, ◌++◌}
 use Prim.Native.Nat.{ℕ, suc, ◌+◌, ◌-◌, ◌≤◌, ◌<◌}
 use native.Mathlib.Omega.{arith}
 use lib.Dec.{ltb, leb}
-use borrow.Author.Tests.{lt-ltb, le-ltb, ltb-false, lt-leb, le-leb, leb-false}
+use borrow.Author.Tests.{lt-ltb, le-ltb, ltb-false, lt-leb, leb-false}
 use Rattle.rules.proofs.Test.{clash, or-false}
 use Rattle.input.specs.Reads.{uncounted, Read, is_last, length_of}
-
-or-last : (a : Bool) → a || true ≡ true
-or-last true = refl
-or-last false = refl
 
 or-none : (a : Bool) → a || false ≡ a
 or-none true = refl
@@ -21,10 +17,6 @@ or-none false = refl
 
 -- ---- the last read
 module _ (n : ℕ) (r : Read) where
-  pub last-uncounted : uncounted ≤ n → true ≡ is_last n r
-  unfolding is_last
-  last-uncounted h = rw (le-leb uncounted n h, is_last) (sym (or-last (ltb r.got r.room)))
-
   pub last-counted : n < uncounted → ltb r.got r.room ≡ is_last n r
   unfolding is_last
   last-counted h = rw (lt-leb uncounted n h, is_last) (sym (or-none (ltb r.got r.room)))

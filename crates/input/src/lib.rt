@@ -9,9 +9,11 @@ ghost use Rattle.input.specs.Reads.{uncounted, is_last};
 use std::io;
 use std::io::Read;
 
-// What is known of an input: how many bytes have been read, and whether those are all. An input of
-// 2^37 bytes or more isn't counted further.
-#[derive(Clone, Copy)]
+// An input of 2^37 bytes or more isn't counted further.
+const UNCOUNTED: u64 = 1 << 37;
+
+// What is known of an input: how many bytes have been read, and whether those are all.
+#[derive(Clone, Copy, Debug, PartialEq, Eq)]
 pub struct Input {
     pub length: u64,
     pub ended: bool,
@@ -28,16 +30,14 @@ pub fn unread() -> Input
 }
 
 // After one more read, which gave `got` bytes where there was room for `room`.
+#[tactic(auto, using(std::proofs::lemmas::Bool::Decides::nat_tests), unfolding(crate::specs::Reads::is_last))]
 pub fn read_on(input: Input, got: usize, room: usize) -> Input
     requires { (input.length < uncounted) × (got ≤ 65536) }
     ensures length { result.length ≡ input.length + got }
     ensures ended { result.ended ≡ is_last (input.length + got) (record { got = got; room = room }) }
 {
     let length = input.length + got as u64;
-    let mut ended = got < room;
-    if 137438953472 <= length {
-        ended = true;
-    }
+    let ended = got < room || UNCOUNTED <= length;
     Input { length, ended }
 }
 

@@ -4,7 +4,8 @@ use mathlib.Core.Path.{◌≡◌, sym, ◌∙◌, ap}
 use mathlib.Core.Bool.{Bool, true, false}
 use mathlib.Core.List.{List, [], ◌∷◌}
 use mathlib.Core.Option.{some}
-use Prim.Native.Nat.{ℕ, suc, ◌-◌, ◌≤◌, ◌<◌}
+use Prim.Native.Nat.{ℕ, ◌+◌, ◌≤◌, ◌<◌}
+use native.Mathlib.Numerals.{add-one}
 use native.Mathlib.Omega.{arith}
 use native.Mathlib.Decide.{ℕ_discrete}
 use lib.Dec.{eqb}
@@ -12,13 +13,12 @@ use borrow.Author.Tests.{eqb-true, ne_eqb, ltb-true}
 use Rattle.rules.specs.Rows.{row_count, kind, detail}
 use Rattle.rules.specs.Class.{break, continue, goto, fallthrough, one_of, is_branch, is_breakable, is_loop, class, class_of, base, detail_allowed}
 use Rattle.rules.specs.Body.{Body}
-use Rattle.rules.specs.Labels.{needs, target, valid_target, word}
-use Rattle.rules.proofs.Test.{case-found, clash}
+use Rattle.rules.specs.Labels.{needs, target, valid_target}
+use Rattle.rules.proofs.Test.{clash}
 use Rattle.rules.proofs.Classes.{no_block}
 use Rattle.rules.proofs.ClassTests.{break-branch}
 use Rattle.rules.proofs.Lists.{branch-kind, own-breakable, own-loop, by-words}
-use Rattle.rules.proofs.Found.{word-found}
-use Rattle.rules.proofs.BreakRows.{valid-found, valid-none}
+use Rattle.rules.proofs.BreakRows.{valid-found}
 use Rattle.tables.proofs.Labelling.{label-class}
 use Rattle.jumps.proofs.BlockLabels.{target-label}
 
@@ -81,35 +81,23 @@ module _ (w : List ℕ) (r : ℕ) (a : detail_allowed (kind w r) (detail w r) �
   not-zero-continue n = let d = break-detail in detail-continue w r a (break-branch (class w r) t) (omega arith)
 
 -- ---- the target
-module _ {w p b : List ℕ} (body : Body w p b) (g : ℕ) (row : g < row_count w) (label : ℕ) (e : label ≡ word (target w p b g)) where
-  pub no_target : label ≡ 0 → false ≡ valid_target w p b g
-  no_target z = case-found (target w p b g)
-      (λ t f. let i = e ∙ ap word f in absurd (omega arith))
-      (λ f. sym (valid-none w p b g f))
+module _ {w p b : List ℕ} (body : Body w p b) (g : ℕ) (row : g < row_count w) (t : ℕ) (e : some t ≡ target w p b g) where
+  -- the row below the label
+  pub target_row : t + 1 < row_count w
+  target_row =
+      let x = target-label body g row t (sym e) in
+      let before = x.before in
+      let one = body.one_statement t (omega arith) (rw (label-class body t (omega arith) x.labeled-row)) in
+      omega (arith, one.0, body.sized.within t (omega arith))
 
-  module _ (n : label ≡ 0 → ⊥) where
-    found : (t : ℕ) × (target w p b g ≡ some t) × (label ≡ suc t)
-    found =
-        let i : suc (label - 1) ≡ label = omega arith in
-        (label - 1, word-found (target w p b g) (label - 1) (sym e ∙ sym i), sym i)
+  valid-as : valid_target w p b g ≡ needs (class w g) (class w (t + 1))
+  valid-as = rw add-one (valid-found w p b g t (sym e))
 
-    -- the row below the label
-    pub target_row : label < row_count w
-    target_row =
-        let (t, f, i) = found in
-        let x = target-label body g row t f in
-        let before = x.before in
-        let one = body.one_statement t (omega arith) (rw (label-class body t (omega arith) x.labeled-row)) in
-        omega (arith, one.0, body.sized.within t (omega arith))
+  module _ (k : ℕ) (ek : k ≡ kind w (t + 1)) (v : Bool) where
+    pub valid-break : class w g ≡ break → ((d : ℕ) → detail_allowed k d ≡ true → v ≡ is_breakable (class_of k d)) → v ≡ valid_target w p b g
+    valid-break c h =
+        by-words is_breakable w (t + 1) k v (own-breakable w (t + 1)) ek (body.details (t + 1) target_row) h ∙ sym (valid-as ∙ rw c)
 
-    valid-as : valid_target w p b g ≡ needs (class w g) (class w label)
-    valid-as = let (t, f, i) = found in valid-found w p b g t f ∙ ap (λ (r : ℕ). needs (class w g) (class w r)) (sym i)
-
-    module _ (k : ℕ) (ek : k ≡ kind w label) (v : Bool) where
-      pub valid-break : class w g ≡ break → ((d : ℕ) → detail_allowed k d ≡ true → v ≡ is_breakable (class_of k d)) → v ≡ valid_target w p b g
-      valid-break c h =
-          by-words is_breakable w label k v (own-breakable w label) ek (body.details label target_row) h ∙ sym (valid-as ∙ rw c)
-
-      pub valid-continue : class w g ≡ continue → ((d : ℕ) → detail_allowed k d ≡ true → v ≡ is_loop (class_of k d)) → v ≡ valid_target w p b g
-      valid-continue c h =
-          by-words is_loop w label k v (own-loop w label) ek (body.details label target_row) h ∙ sym (valid-as ∙ rw c)
+    pub valid-continue : class w g ≡ continue → ((d : ℕ) → detail_allowed k d ≡ true → v ≡ is_loop (class_of k d)) → v ≡ valid_target w p b g
+    valid-continue c h =
+        by-words is_loop w (t + 1) k v (own-loop w (t + 1)) ek (body.details (t + 1) target_row) h ∙ sym (valid-as ∙ rw c)

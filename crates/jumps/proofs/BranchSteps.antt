@@ -3,7 +3,7 @@
 use mathlib.Core.Path.{◌≡◌, refl, sym, ◌∙◌, ap}
 use mathlib.Core.Bool.{true, false, not}
 use mathlib.Core.List.{List, [], ◌∷◌}
-use mathlib.Core.Option.{none}
+use mathlib.Core.Option.{none, some}
 use Prim.Native.Nat.{ℕ, suc, ◌+◌, ◌*◌, ◌≤◌, ◌<◌}
 use native.Mathlib.Numerals.{add-one}
 use native.Mathlib.Omega.{arith}
@@ -16,7 +16,7 @@ use Rattle.rules.specs.Rows.{row_count, position, detail, name}
 use Rattle.rules.specs.Class.{Class, break, continue, goto, fallthrough, one_of, is_branch, class}
 use Rattle.rules.specs.Scope.{is_block}
 use Rattle.rules.specs.Labels.{fault, is_label, labelled_break, valid_target, earlier, report, word}
-use Rattle.rules.proofs.Test.{case-found, clash}
+use Rattle.rules.proofs.Test.{clash}
 use Rattle.rules.proofs.Every.{every}
 use Rattle.rules.proofs.ClassRules.{class-rule}
 use Rattle.rules.proofs.ClassTests.{break-branch, branch-goto, branch-fallthrough}
@@ -45,6 +45,10 @@ module _ {w p b cs ds ls : List ℕ} {upto : ℕ} (t : Tables w p b cs ds ls upt
     (walking : Walking w p b x faults s bs h l) where
   pub faults-small : faults ≤ 4000
   faults-small = omega (arith, walking.count, faults-fit w p b x (omega arith), t.body.most_rows)
+
+  -- the row's canonical number has a place among the pending gotos
+  pub head-place : (c : ℕ) → c ≡ get_or cs (name w x) 0 → c < length h
+  head-place c e = omega (arith, walking.heads_room, row-canon-within w p b x, canon-read t x c row e)
 
   -- ---- a branch without a label
   pub unlabelled : is_branch (class w x) ≡ true → name w x ≡ 0 → Walked w p b (suc x) faults s bs s bs h l
@@ -138,7 +142,7 @@ module _ {w p b cs ds ls : List ℕ} {upto : ℕ} (t : Tables w p b cs ds ls upt
           (at_other w p b (suc x) x no-goto ∙ binding-invalid w p b x (branch-label w p b x branch) no-goto (sym f)) s' i
 
   -- ---- a goto
-  module _ (c : class w x ≡ goto) (label : ℕ) (el : label ≡ word (earlier w p b x)) where
+  module _ (c : class w x ≡ goto) where
     goto-label : is_label w p b x ≡ false
     goto-label = branch-label w p b x (branch-goto (class w x) c)
 
@@ -148,27 +152,21 @@ module _ {w p b cs ds ls : List ℕ} {upto : ℕ} (t : Tables w p b cs ds ls upt
     goto-report : report w p b x ≡ []
     goto-report = report-other w p b x goto-label (other-labelled w p b x (rw c)) (λ y. clash (cc y.falls-through))
 
-    pub label_small : label ≤ 2000
-    label_small = case-found (earlier w p b x)
-        (λ d e.
-        let i = el ∙ ap word e in
-        let m = (is-earlier w p b x d e).1 in
-        omega (arith, t.body.most_rows))
-        (λ e. let i = el ∙ ap word e in omega arith)
-
     -- bound to a label before it
-    pub goto-bound : (label ≡ 0 → ⊥) → Walked w p b (suc x) faults s bs s (set bs x label) h l
-    goto-bound n = case-found (earlier w p b x)
-        (λ d e.
-        walked w p b x faults s bs h l row goto-label walking faults s (set bs x label)
-        (written-bound w p b x faults s bs h l row goto-label walking label goto-report (el ∙ ap word e ∙ sym (at-goto w p b (suc x) x d c e)))
-        l (pending-earlier w p b (suc x) x d e) (goto-or-label-other w p b x l goto-block walking.block_labels) (λ g o. refl))
-        (λ e. absurd (n (el ∙ ap word e)))
+    module _ (label : ℕ) (e : some label ≡ earlier w p b x) where
+      pub label_small : label < 2000
+      label_small = let m = (is-earlier w p b x label (sym e)).1 in omega (arith, t.body.most_rows)
+
+      pub goto-bound : Walked w p b (suc x) faults s bs s (set bs x (label + 1)) h l
+      goto-bound =
+          walked w p b x faults s bs h l row goto-label walking faults s (set bs x (label + 1))
+          (written-bound w p b x faults s bs h l row goto-label walking (label + 1) goto-report (add-one label ∙ sym (at-goto w p b (suc x) x label c (sym e))))
+          l (pending-earlier w p b (suc x) x label (sym e)) (goto-or-label-other w p b x l goto-block walking.block_labels) (λ g o. refl)
 
     -- pending
-    module _ (z : label ≡ 0) where
+    module _ (z : none ≡ earlier w p b x) where
       no-earlier : earlier w p b x ≡ none
-      no-earlier = case-found (earlier w p b x) (λ d e. let i = el ∙ ap word e in absurd (omega arith)) (λ e. e)
+      no-earlier = sym z
 
       goto-written : Written w p b (suc x) faults s bs s bs
       goto-written = written_same w p b x faults s bs h l row goto-label walking goto-report
@@ -178,9 +176,6 @@ module _ {w p b cs ds ls : List ℕ} {upto : ℕ} (t : Tables w p b cs ds ls upt
         pub goto-blank : d ≡ 0 → Walked w p b (suc x) faults s bs s bs h l
         goto-blank y = walked-blank w p b x faults s bs h l row goto-label walking faults s bs goto-written
             (pending-own w p b x c no-earlier) (sym (canon-read t x d row ed) ∙ y) goto-block
-
-        pub goto-place : d < length h
-        goto-place = omega (arith, walking.heads_room, row-canon-within w p b x, canon-read t x d row ed)
 
         pub goto-pending : (d ≡ 0 → ⊥) → Walked w p b (suc x) faults s bs s bs (set h d (x + 1)) (set l x (get_or h d 0))
         goto-pending y =

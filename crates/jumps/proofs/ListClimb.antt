@@ -5,7 +5,7 @@
 use mathlib.Core.Path.{◌≡◌, refl, sym, ◌∙◌, ap}
 use mathlib.Core.Bool.{true, false}
 use mathlib.Core.List.{List}
-use mathlib.Core.Option.{some}
+use mathlib.Core.Option.{none, some}
 use Prim.Native.Nat.{ℕ, zero, suc, ◌-◌, ◌≤◌, ◌<◌}
 use native.Mathlib.Omega.{arith}
 use native.Mathlib.Decide.{dec_lt, ℕ_discrete}
@@ -77,19 +77,19 @@ module _ {w p b cs ds ls : List ℕ} {g : ℕ} (t : Tables w p b cs ds ls (suc g
       })
 
   -- ---- no label has the number
-  pub no_name : c ≡ 0 → 0 ≡ word (target w p b g)
-  no_name z = sym (ap word (target_none t.body g row
+  pub no_name : c ≡ 0 → none ≡ target w p b g
+  no_name z = sym (target_none t.body g row
       (λ k s a e u.
       let before = a.before in
       let x = (is-current w p b k s e).1.before in
-      omega (arith, (labels-canon t.body g s row (omega arith) u).2, canon-read t g c row ec))))
+      omega (arith, (labels-canon t.body g s row (omega arith) u).2, canon-read t g c row ec)))
 
-  pub climb-none : (list : ℕ) → Climbing w p b c g list → list ≤ 0 → 0 ≡ word (target w p b g)
-  climb-none list m z = sym (ap word (target_none t.body g row
+  pub climb-none : (list : ℕ) → Climbing w p b c g list → list ≤ 0 → none ≡ target w p b g
+  climb-none list m z = sym (target_none t.body g row
       (λ k s a e u.
       let before = a.before in
       let x = (is-current w p b k s e).1.before in
-      m.passed k s (omega arith) a e ((labels-canon t.body g s row (omega arith) u).1 ∙ sym (canon-read t g c row ec)))))
+      m.passed k s (omega arith) a e ((labels-canon t.body g s row (omega arith) u).1 ∙ sym (canon-read t g c row ec))))
 
   -- ---- one row of the climb
   module _ (list : ℕ) (m : Climbing w p b c g list) (h : 0 < list) where
@@ -100,11 +100,11 @@ module _ {w p b cs ds ls : List ℕ} {g : ℕ} (t : Tables w p b cs ds ls (suc g
     climb-in = omega (arith, m.before)
 
     -- it is no Block
-    pub no_block : (k : ℕ) → k ≡ kind w (list - 1) → (k ≡ 12 → ⊥) → is_block (class w (list - 1)) ≡ false
-    no_block k e n = sym (block-kind w (list - 1) (t.body.details (list - 1) climb-in)) ∙ ne_eqb (kind w (list - 1)) 12 (λ i. n (e ∙ i))
+    no_block : (kind w (list - 1) ≡ 12 → ⊥) → is_block (class w (list - 1)) ≡ false
+    no_block n = sym (block-kind w (list - 1) (t.body.details (list - 1) climb-in)) ∙ ne_eqb (kind w (list - 1)) 12 n
 
-    is_block_lem : (k : ℕ) → k ≡ kind w (list - 1) → k ≡ 12 → is_block (class w (list - 1)) ≡ true
-    is_block_lem k e i = sym (block-kind w (list - 1) (t.body.details (list - 1) climb-in)) ∙ eq-eqb (kind w (list - 1)) 12 (sym e ∙ i)
+    is_block_lem : kind w (list - 1) ≡ 12 → is_block (class w (list - 1)) ≡ true
+    is_block_lem i = sym (block-kind w (list - 1) (t.body.details (list - 1) climb-in)) ∙ eq-eqb (kind w (list - 1)) 12 i
 
     -- the climb goes on
     pub climb-on : (next : ℕ) → next ≡ get_or ls (list - 1) 0
@@ -144,17 +144,17 @@ module _ {w p b cs ds ls : List ℕ} {g : ℕ} (t : Tables w p b cs ds ls (suc g
         ]
 
     -- a row that is no Block
-    pub climb-plain : (next k : ℕ) → next ≡ get_or ls (list - 1) 0 → k ≡ kind w (list - 1) → (k ≡ 12 → ⊥) → Climbing w p b c g next
-    climb-plain next k e f n = climb-on next e (λ s u x y. clash (cc (no_block k f n)))
+    pub climb-plain : (next : ℕ) → next ≡ get_or ls (list - 1) 0 → (kind w (list - 1) ≡ 12 → ⊥) → Climbing w p b c g next
+    climb-plain next e n = climb-on next e (λ s u x y. clash (cc (no_block n)))
 
     pub climb-less : (next : ℕ) → next ≡ get_or ls (list - 1) 0 → next < list
     climb-less next e = omega (arith, list-before t (list - 1) (omega (arith, climb-row)))
 
     -- a Block: label is its word in the table
-    module _ (k : ℕ) (ek : k ≡ kind w (list - 1)) (i : k ≡ 12) (goto-or-label : List ℕ) (linked : BlockLabels w p b g goto-or-label) (label : ℕ)
+    module _ (i : kind w (list - 1) ≡ 12) (goto-or-label : List ℕ) (linked : BlockLabels w p b g goto-or-label) (label : ℕ)
         (el : label ≡ get_or goto-or-label (list - 1) 0) where
       label_is : label ≡ word (current_label w p b (list - 1))
-      label_is = el ∙ linked.1 (list - 1) climb-row (is_block_lem k ek i)
+      label_is = el ∙ linked.1 (list - 1) climb-row (is_block_lem i)
 
       -- of no label
       pub climb-unlabelled : (next : ℕ) → next ≡ get_or ls (list - 1) 0 → label ≡ 0 → Climbing w p b c g next
@@ -178,17 +178,15 @@ module _ {w p b cs ds ls : List ℕ} {g : ℕ} (t : Tables w p b cs ds ls (suc g
               o (canon-read t (label - 1) d label-in ed ∙ rw v y))
 
           -- of a label with the branch's name
-          pub climb-found : (c ≡ 0 → ⊥) → d ≡ c → label ≡ word (target w p b g)
+          pub climb-found : (c ≡ 0 → ⊥) → d ≡ c → some (label - 1) ≡ target w p b g
           climb-found z o =
               let s = label - 1 in
               let x = (is-current w p b (list - 1) s current).1 in
               let same_number : row_canon w p b s ≡ row_canon w p b g = sym (canon-read t s d label-in ed) ∙ o ∙ canon-read t g c row ec in
               let names = canon-labels t.body g s row label-in (label-class t.body s label-in x.labeled-row) same_number
               (omega (arith, canon-read t g c row ec)) in
-              let f = target_found t.body g row (list - 1) s (record { blocks = is_block_lem k ek i; before = climb-row; reaches = m.reaches h }) current names
+              sym (target_found t.body g row (list - 1) s (record { blocks = is_block_lem i; before = climb-row; reaches = m.reaches h }) current names
               (λ j r l a e u.
               let before = a.before in
               let after = (is-current w p b j r e).1.before in
-              m.passed j r (omega arith) a e ((labels-canon t.body g r row (omega arith) u).1 ∙ sym (canon-read t g c row ec))) in
-              let v = ap word f in
-              omega arith
+              m.passed j r (omega arith) a e ((labels-canon t.body g r row (omega arith) u).1 ∙ sym (canon-read t g c row ec))))

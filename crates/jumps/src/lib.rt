@@ -4,139 +4,102 @@
 ghost use Rattle.std.specs.Prelude.{◌≡◌, true, [], ◌∷◌, suc, ◌<◌};
 ghost use Rattle.rules.specs.Rows.{row_count, name};
 ghost use Rattle.rules.specs.Class.{break, continue, goto, one_of, is_branch, class};
-ghost use Rattle.rules.specs.Labels.{earlier, target, valid_target, word};
-ghost use Rattle.tables.specs.Canon.{Tables};
+ghost use Rattle.rules.specs.Labels.{earlier, target, valid_target};
+ghost use Rattle.tables.specs.Canon.{Tables as HasTables};
+ghost use Rattle.rows.specs.Found.{row_found};
 ghost use Rattle.walk_state.specs.Walk.{BlockLabels, Walking, Walked};
 
-use rows::{RowNumber, details, kinds};
+use body::Body;
+use rows::kinds::Kind;
+use rows::{RowNumber, details};
+use tables::Tables;
 
-fn wide(number: u16) -> usize
-    ensures { result ≡ number }
+// The declared label, where it stands before the goto in a list around it.
+fn goto_target(body: Body<'_>, tables: Tables<'_>, row: RowNumber) -> Option<RowNumber>
+    requires tables { HasTables body.rows.now body.pairs.now body.bytes.now tables.canonical.now tables.label_rows.now tables.lists.now (suc row.0) }
+    requires row_bound { (row.0 < row_count body.rows.now) × (class body.rows.now row.0 ≡ goto) }
+    ensures { row_found result ≡ earlier body.entry.rows.now body.entry.pairs.now body.entry.bytes.now row.0 }
 {
-    number as usize
-}
-
-// The declared label, 1 + its row, where it stands before the goto in a list around it; else 0.
-fn goto_target(
-    rows: &[u32],
-    pairs: &[u32],
-    bytes: &[u8],
-    canonical: &[u32],
-    label_rows: &[u16],
-    lists: &[u16],
-    row: RowNumber,
-) -> usize
-    requires tables { Tables rows.now pairs.now bytes.now canonical.now label_rows.now lists.now (suc row.0) }
-    requires row_bound { (row.0 < row_count rows.now) × (class rows.now row.0 ≡ goto) }
-    ensures { result ≡ word (earlier rows.now pairs.now bytes.now row.0) }
-{
-    let c = tables::canon_of(rows, canonical, row);
+    let c = tables::canon_of(body.rows, tables.canonical, row);
     if c == 0 {
-        return 0;
+        return None;
     }
-    let declared = wide(label_rows[c]);
+    let declared = usize::from(tables.label_rows[c]);
     if declared == 0 {
-        return 0;
+        return None;
     }
     let label = declared - 1;
     if row.0 <= label {
-        return 0;
+        return None;
     }
-    let list = wide(lists[label]);
+    let list = usize::from(tables.lists[label]);
     if list == 0 {
-        return 0;
+        return None;
     }
     let l = list - 1;
-    if l + rows::size(rows, RowNumber(l)) <= row.0 {
-        return 0;
+    if l + rows::size(body.rows, RowNumber(l)) <= row.0 {
+        return None;
     }
-    declared
+    Some(RowNumber(label))
 }
 
-// The label, 1 + its row, of the innermost Block around the branch that belongs to a statement with
-// the branch's label; else 0.
+// The label of the innermost Block around the branch that belongs to a statement with the branch's
+// label.
 fn enclosing_target(
-    rows: &[u32],
-    pairs: &[u32],
-    bytes: &[u8],
-    canonical: &[u32],
-    label_rows: &[u16],
-    lists: &[u16],
+    body: Body<'_>,
+    tables: Tables<'_>,
     goto_or_label: &[u16],
     row: RowNumber,
-) -> usize
-    requires tables { Tables rows.now pairs.now bytes.now canonical.now label_rows.now lists.now (suc row.0) }
-    requires block_labels { BlockLabels rows.now pairs.now bytes.now row.0 goto_or_label.now }
-    requires row_bound { (row.0 < row_count rows.now) × (is_branch (class rows.now row.0) ≡ true) }
-    ensures { result ≡ word (target rows.now pairs.now bytes.now row.0) }
+) -> Option<RowNumber>
+    requires tables { HasTables body.rows.now body.pairs.now body.bytes.now tables.canonical.now tables.label_rows.now tables.lists.now (suc row.0) }
+    requires block_labels { BlockLabels body.rows.now body.pairs.now body.bytes.now row.0 goto_or_label.now }
+    requires row_bound { (row.0 < row_count body.rows.now) × (is_branch (class body.rows.now row.0) ≡ true) }
+    ensures { row_found result ≡ target body.entry.rows.now body.entry.pairs.now body.entry.bytes.now row.0 }
 {
-    let c = tables::canon_of(rows, canonical, row);
+    let c = tables::canon_of(body.rows, tables.canonical, row);
     if c == 0 {
-        return 0;
+        return None;
     }
     let r = row.0;
-    let mut list = wide(lists[r]);
+    let mut list = usize::from(tables.lists[r]);
     while 0 < list {
         let l = list - 1;
-        if rows::kind(rows, RowNumber(l)) == kinds::BLOCK {
-            let label = wide(goto_or_label[l]);
-            if label != 0 {
-                if tables::canon_of(rows, canonical, RowNumber(label - 1)) == c {
-                    return label;
-                }
+        if rows::kind_at(body.rows, RowNumber(l)) == Kind::Block {
+            let label = usize::from(goto_or_label[l]);
+            if label != 0
+                && tables::canon_of(body.rows, tables.canonical, RowNumber(label - 1)) == c
+            {
+                return Some(RowNumber(label - 1));
             }
         }
-        list = wide(lists[l]);
+        list = usize::from(tables.lists[l]);
     }
-    0
+    None
 }
 
 // Whether the labelled break or continue has a target of the kind it needs.
-fn valid_target(
-    rows: &[u32],
-    pairs: &[u32],
-    bytes: &[u8],
-    canonical: &[u32],
-    label_rows: &[u16],
-    lists: &[u16],
-    goto_or_label: &[u16],
-    row: RowNumber,
-) -> bool
-    requires tables { Tables rows.now pairs.now bytes.now canonical.now label_rows.now lists.now (suc row.0) }
-    requires block_labels { BlockLabels rows.now pairs.now bytes.now row.0 goto_or_label.now }
-    requires row_bound { (row.0 < row_count rows.now) × (one_of (break ∷ continue ∷ []) (class rows.now row.0) ≡ true) }
-    ensures { result ≡ valid_target rows.now pairs.now bytes.now row.0 }
+fn valid_target(body: Body<'_>, tables: Tables<'_>, goto_or_label: &[u16], row: RowNumber) -> bool
+    requires tables { HasTables body.rows.now body.pairs.now body.bytes.now tables.canonical.now tables.label_rows.now tables.lists.now (suc row.0) }
+    requires block_labels { BlockLabels body.rows.now body.pairs.now body.bytes.now row.0 goto_or_label.now }
+    requires row_bound { (row.0 < row_count body.rows.now) × (one_of (break ∷ continue ∷ []) (class body.rows.now row.0) ≡ true) }
+    ensures { result ≡ valid_target body.entry.rows.now body.entry.pairs.now body.entry.bytes.now row.0 }
 {
-    let label = enclosing_target(
-        rows,
-        pairs,
-        bytes,
-        canonical,
-        label_rows,
-        lists,
-        goto_or_label,
-        row,
-    );
-    if label == 0 {
+    let Some(label) = enclosing_target(body, tables, goto_or_label, row) else {
         return false;
-    }
-    let kind = rows::kind(rows, RowNumber(label));
-    if rows::detail(rows, row) == details::BREAK {
-        kinds::is_breakable(kind)
+    };
+    let kind = rows::kind_at(body.rows, RowNumber(label.0 + 1));
+    if rows::detail(body.rows, row) == details::BREAK {
+        kind.is_breakable()
     } else {
-        kinds::is_loop(kind)
+        kind.is_loop()
     }
 }
 
 // A labelled break or continue: bound to the declared label, or a fault. It answers the sheet's row
 // count.
 fn break_branches(
-    rows: &[u32],
-    pairs: &[u32],
-    bytes: &[u8],
-    canonical: &[u32],
-    label_rows: &[u16],
-    lists: &[u16],
+    body: Body<'_>,
+    tables: Tables<'_>,
     sheet: &mut [u32],
     bindings: &mut [u32],
     heads: &[u16],
@@ -144,40 +107,27 @@ fn break_branches(
     row: RowNumber,
     faults: usize,
 ) -> usize
-    requires tables { Tables rows.now pairs.now bytes.now canonical.now label_rows.now lists.now (suc row.0) }
-    requires walking { Walking rows.now pairs.now bytes.now row.0 faults sheet.old bindings.old heads.now goto_or_label.now }
-    requires row_bound { (row.0 < row_count rows.now) × (one_of (break ∷ continue ∷ []) (class rows.now row.0) ≡ true) × (0 < name rows.now row.0) }
-    ensures { Walked rows.now pairs.now bytes.now (suc row.0) result sheet.old bindings.old
+    requires tables { HasTables body.rows.now body.pairs.now body.bytes.now tables.canonical.now tables.label_rows.now tables.lists.now (suc row.0) }
+    requires walking { Walking body.rows.now body.pairs.now body.bytes.now row.0 faults sheet.old bindings.old heads.now goto_or_label.now }
+    requires row_bound { (row.0 < row_count body.rows.now) × (one_of (break ∷ continue ∷ []) (class body.rows.now row.0) ≡ true) × (0 < name body.rows.now row.0) }
+    ensures { Walked body.entry.rows.now body.entry.pairs.now body.entry.bytes.now (suc row.0) result sheet.old bindings.old
         sheet.new bindings.new heads.now goto_or_label.now }
 {
-    if valid_target(
-        rows,
-        pairs,
-        bytes,
-        canonical,
-        label_rows,
-        lists,
-        goto_or_label,
-        row,
-    ) {
-        let c = tables::canon_of(rows, canonical, row);
+    if valid_target(body, tables, goto_or_label, row) {
+        let c = tables::canon_of(body.rows, tables.canonical, row);
         let r = row.0;
-        bindings[r] = label_rows[c] as u32;
+        bindings[r] = u32::from(tables.label_rows[c]);
         return faults;
     }
-    let code = 4 + rows::detail(rows, row);
-    sheet::put(rows, sheet, faults, code, row, 0);
+    let code = 4 + rows::detail(body.rows, row);
+    sheet::put(body.rows, sheet, faults, code, row, 0);
     faults + 1
 }
 
 // A goto: bound to a declared label before it, or pending.
 fn goto_branches(
-    rows: &[u32],
-    pairs: &[u32],
-    bytes: &[u8],
-    canonical: &[u32],
-    label_rows: &[u16],
-    lists: &[u16],
+    body: Body<'_>,
+    tables: Tables<'_>,
     sheet: &[u32],
     bindings: &mut [u32],
     heads: &mut [u16],
@@ -185,19 +135,18 @@ fn goto_branches(
     row: RowNumber,
     faults: usize,
 )
-    requires tables { Tables rows.now pairs.now bytes.now canonical.now label_rows.now lists.now (suc row.0) }
-    requires walking { Walking rows.now pairs.now bytes.now row.0 faults sheet.now bindings.old heads.old goto_or_label.old }
-    requires row_bound { (row.0 < row_count rows.now) × (class rows.now row.0 ≡ goto) }
-    ensures { Walked rows.now pairs.now bytes.now (suc row.0) faults sheet.now bindings.old
+    requires tables { HasTables body.rows.now body.pairs.now body.bytes.now tables.canonical.now tables.label_rows.now tables.lists.now (suc row.0) }
+    requires walking { Walking body.rows.now body.pairs.now body.bytes.now row.0 faults sheet.now bindings.old heads.old goto_or_label.old }
+    requires row_bound { (row.0 < row_count body.rows.now) × (class body.rows.now row.0 ≡ goto) }
+    ensures { Walked body.entry.rows.now body.entry.pairs.now body.entry.bytes.now (suc row.0) faults sheet.now bindings.old
         sheet.now bindings.new heads.new goto_or_label.new }
 {
     let r = row.0;
-    let label = goto_target(rows, pairs, bytes, canonical, label_rows, lists, row);
-    if label != 0 {
-        bindings[r] = label as u32;
+    if let Some(label) = goto_target(body, tables, row) {
+        bindings[r] = (label.0 + 1) as u32;
         return;
     }
-    let c = tables::canon_of(rows, canonical, row);
+    let c = tables::canon_of(body.rows, tables.canonical, row);
     if c != 0 {
         goto_or_label[r] = heads[c];
         heads[c] = (r + 1) as u16;
@@ -206,12 +155,8 @@ fn goto_branches(
 
 // A Branch row. It answers the sheet's row count.
 pub fn jump_branches(
-    rows: &[u32],
-    pairs: &[u32],
-    bytes: &[u8],
-    canonical: &[u32],
-    label_rows: &[u16],
-    lists: &[u16],
+    body: Body<'_>,
+    tables: Tables<'_>,
     sheet: &mut [u32],
     bindings: &mut [u32],
     heads: &mut [u16],
@@ -219,50 +164,43 @@ pub fn jump_branches(
     row: RowNumber,
     faults: usize,
 ) -> usize
-    requires tables { Tables rows.now pairs.now bytes.now canonical.now label_rows.now lists.now (suc row.0) }
-    requires walking { Walking rows.now pairs.now bytes.now row.0 faults sheet.old bindings.old heads.old goto_or_label.old }
-    requires row_bound { (row.0 < row_count rows.now) × (is_branch (class rows.now row.0) ≡ true) }
-    ensures { Walked rows.now pairs.now bytes.now (suc row.0) result sheet.old bindings.old
+    requires tables { HasTables body.rows.now body.pairs.now body.bytes.now tables.canonical.now tables.label_rows.now tables.lists.now (suc row.0) }
+    requires walking { Walking body.rows.now body.pairs.now body.bytes.now row.0 faults sheet.old bindings.old heads.old goto_or_label.old }
+    requires row_bound { (row.0 < row_count body.rows.now) × (is_branch (class body.rows.now row.0) ≡ true) }
+    ensures { Walked body.entry.rows.now body.entry.pairs.now body.entry.bytes.now (suc row.0) result sheet.old bindings.old
         sheet.new bindings.new heads.new goto_or_label.new }
 {
-    let name = rows::name(rows, row);
+    let name = rows::name(body.rows, row);
     if name.0 == 0 {
         return faults;
     }
-    let detail = rows::detail(rows, row);
-    if detail == details::FALLTHROUGH {
-        sheet::put(rows, sheet, faults, 6, row, 0);
-        return faults + 1;
-    }
-    if detail == details::GOTO {
-        goto_branches(
-            rows,
-            pairs,
-            bytes,
-            canonical,
-            label_rows,
-            lists,
+    match rows::detail(body.rows, row) {
+        details::FALLTHROUGH => {
+            sheet::put(body.rows, sheet, faults, 6, row, 0);
+            faults + 1
+        }
+        details::GOTO => {
+            goto_branches(
+                body,
+                tables,
+                sheet,
+                bindings,
+                heads,
+                goto_or_label,
+                row,
+                faults,
+            );
+            faults
+        }
+        _ => break_branches(
+            body,
+            tables,
             sheet,
             bindings,
             heads,
             goto_or_label,
             row,
             faults,
-        );
-        return faults;
+        ),
     }
-    break_branches(
-        rows,
-        pairs,
-        bytes,
-        canonical,
-        label_rows,
-        lists,
-        sheet,
-        bindings,
-        heads,
-        goto_or_label,
-        row,
-        faults,
-    )
 }

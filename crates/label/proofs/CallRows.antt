@@ -3,40 +3,23 @@
 use mathlib.Core.Path.{◌≡◌, refl, sym, ◌∙◌, ap}
 use mathlib.Core.Bool.{true, false}
 use mathlib.Core.List.{List}
-use mathlib.Core.Option.{none, some}
-use Prim.Native.Nat.{ℕ, ◌+◌, ◌*◌, ◌≤◌, ◌<◌}
+use mathlib.Core.Option.{some}
+use Prim.Native.Nat.{ℕ, ◌*◌, ◌≤◌, ◌<◌}
 use native.Mathlib.Omega.{arith}
-use native.Mathlib.Decide.{ℕ_discrete}
-use lib.ListN.{length, get_or, drop, set, length-set}
-use lib.Seq.{length-take-le, get_or-set_same, get_or-set_other, drop-set-lt}
-use Rattle.rules.specs.Rows.{row_count, name}
-use Rattle.rules.specs.Refusals.{refusal}
+use lib.ListN.{length}
+use lib.Seq.{length-take-le}
+use Rattle.rules.specs.Rows.{row_count}
+use Rattle.rules.specs.Refusals.{refusal, WellFormed}
 use Rattle.rules.specs.Body.{Body}
 use Rattle.rules.specs.Labels.{Fault, sheet as sheet_of, bindings as bindings_of}
 use Rattle.rules.specs.Calls.{Answer, refused, answered, fault_words, written, too_short, label_call}
 use Rattle.rules.proofs.Lent.{short-sheet, short-bindings, room, is-written}
 use Rattle.rules.proofs.LabelCall.{label-refused, label-short, label-written}
 use Rattle.walk_state.proofs.WalkFaults.{words-length}
-use Rattle.label_body.specs.Answered.{Blank, Answered}
+use Rattle.label_body.specs.Answered.{Answered}
 use Rattle.label_body.proofs.BodyRows.{bindings-by-row}
 use Rattle.label.specs.Cleared.{NoName, Cleared}
 use Rattle.label.proofs.NamelessRows.{nameless-sheet, nameless-binding}
-
--- ---- words that are 0
-pub cleared_more : (r n : ℕ) (t t' : List ℕ) → r < n → n ≤ length t → length t' ≡ length t → ((g : ℕ) → g < r → get_or t' g 0 ≡ 0) → drop n t' ≡ drop n t
-    → (r + 1 ≤ n) × (length (set t' r 0) ≡ length t) × ((g : ℕ) → g < r + 1 → get_or (set t' r 0) g 0 ≡ 0) × (drop n (set t' r 0) ≡ drop n t)
-cleared_more r n t t' h m same zeros kept = (
-  omega arith,
-  length-set t' r 0 ∙ same,
-  λ g l. elim (ℕ_discrete g r) [
-    | yes e ↦ rw e (get_or-set_same t' r 0 0 (omega arith))
-    | no o ↦ get_or-set_other t' r g 0 0 o ∙ zeros g (omega arith)
-  ],
-  drop-set-lt n t' r 0 h ∙ kept,
-)
-
-pub nameless-more : (w : List ℕ) (r : ℕ) → ((k : ℕ) → k < r → name w k ≡ 0) → name w r ≡ 0 → (k : ℕ) → k < r + 1 → name w k ≡ 0
-nameless-more w r before own k h = elim (ℕ_discrete k r) [ yes e ↦ rw e own | no o ↦ before k (omega arith) ]
 
 -- ---- without names there is nothing to walk
 module _ {w p b : List ℕ} (body : Body w p b) where
@@ -53,18 +36,6 @@ module _ {w p b : List ℕ} (body : Body w p b) where
     bindings_kept = c.kept;
   }
 
--- ---- bindings that were cleared
-pub cleared-blank : (w s t t' : List ℕ) → row_count w * 8 ≤ length s → row_count w ≤ length t → Cleared (row_count w) t t' → Blank w s t'
-cleared-blank w s t t' h k c = record { sheet_room = h; bindings_room = omega (arith, c.cleared_length); bindings_zero = c.zeros }
-
-pub answered-from : {w p b : List ℕ} (n : ℕ) (s t t₁ s' t' : List ℕ) → Cleared (row_count w) t t₁ → Answered w p b n s t₁ s' t' → Answered w p b n s t s' t'
-answered-from n s t t₁ s' t' c x = record {
-  on_sheet = x.on_sheet;
-  bindings_length = x.bindings_length ∙ c.cleared_length;
-  bound = x.bound;
-  bindings_kept = x.bindings_kept ∙ c.kept;
-}
-
 -- ---- the call
 -- what it answers, and the two as it leaves them
 abbrev pub Called : (w p b s t : List ℕ) → Answer ℕ → (s' t' : List ℕ) → Type 0
@@ -74,9 +45,9 @@ module _ (w p b s t : List ℕ) where
   pub call-refused : (r : ℕ × ℕ) → some r ≡ refusal w p b → Called w p b s t (refused r.0 r.1) s t
   call-refused r e = rw (label-refused w p b s t r (sym e)) (refl, (refl, refl))
 
-  module _ (f : none ≡ refusal w p b) where
+  module _ (f : WellFormed w p b) where
     call-short : too_short w s t ≡ true → Called w p b s t (refused 7 0) s t
-    call-short e = rw (label-short w p b s t (sym f) e) (refl, (refl, refl))
+    call-short e = rw (label-short w p b s t f e) (refl, (refl, refl))
 
     pub call-short-sheet : length s < row_count w * 8 → Called w p b s t (refused 7 0) s t
     call-short-sheet h = call-short (short-sheet w s t h)
@@ -86,7 +57,7 @@ module _ (w p b s t : List ℕ) where
 
     call-written : too_short w s t ≡ false
         → Called w p b s t (answered (length (sheet_of w p b))) (written (fault_words (sheet_of w p b)) s) (written (bindings_of w p b) t)
-    call-written e = rw (label-written w p b s t (sym f) e) (refl, (refl, refl))
+    call-written e = rw (label-written w p b s t f e) (refl, (refl, refl))
 
     pub call-answered : (n : ℕ) (s' t' : List ℕ) → row_count w * 8 ≤ length s → row_count w ≤ length t → Answered w p b n s t s' t'
         → Called w p b s t (answered n) s' t'

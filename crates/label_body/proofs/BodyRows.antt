@@ -1,9 +1,10 @@
 -- The walk of a body from its start to its end: the walk's state at row 0, and what stands on the sheet and in the bindings when all is reported.
 -- Assumes nothing.
 use mathlib.Core.Path.{◌≡◌, refl, sym, ◌∙◌, ap}
+use mathlib.Core.Bool.{Bool, false}
 use mathlib.Core.List.{List, [], ◌∷◌}
 use mathlib.Core.Option.{Option, none}
-use Prim.Native.Nat.{ℕ, suc, ◌*◌, ◌≤◌, ◌<◌}
+use Prim.Native.Nat.{ℕ, zero, suc, ◌*◌, ◌≤◌, ◌<◌}
 use native.Mathlib.Omega.{arith}
 use lib.ListN.{length, get_or, take, replicate, length-replicate, length-append}
 use lib.Seq.{ext_get_or, length-take-le, get_or-take}
@@ -18,17 +19,14 @@ use Rattle.rules.proofs.Scan.{none-highest}
 use Rattle.rules.proofs.Each.{each-length, each_at}
 use Rattle.rules.proofs.ClassTests.{one-is}
 use Rattle.rules.proofs.Every.{is_one}
-use Rattle.canonical.proofs.Zeros.{zeros-at}
 use Rattle.tables.specs.Canon.{CanonTable, DeclaredTable, Tables}
 use Rattle.walk_state.specs.Walk.{Walking, Walked, faults_at, binding_at, previous_pending}
 use Rattle.walk_state.proofs.WalkFaults.{faults-zero, drop-further}
 use Rattle.walk_state.proofs.WalkBindings.{bindings_zero, are-bindings, word-before, at_other}
 use Rattle.walk_state.proofs.WalkPending.{waits}
-use Rattle.label_rest.specs.Rest.{Reported, AtEnd, faults_left}
-use Rattle.label_walk.specs.Contexts.{Contexts}
+use Rattle.label_rest.specs.Rest.{Reported, faults_left}
 use Rattle.label_body.specs.Answered.{Blank, Lent, Answered}
-use Rattle.label_walk.proofs.ContextRows.{contexts-start}
-use Rattle.label_rest.proofs.LeftRows.{branch-word, pair-most}
+use Rattle.label_rest.proofs.LeftRows.{branch-word}
 use Rattle.label_rest.proofs.UnusedRows.{nines_to, nines-sheet}
 
 -- ---- the walk's start
@@ -37,7 +35,7 @@ module _ (w p b : List ℕ) where
   unfolding previous_pending
   nothing-pending c = none-highest (waits w p b 0 c) 0 (λ k h. absurd (omega arith))
 
-  walking_start : (cs ds ls s t h l d m u : List ℕ) → Lent w p cs ds ls s t h l d m u → Walking w p b 0 0 s t h l
+  pub walking_start : (cs ds ls s t h l d m : List ℕ) (u : List Bool) → Lent w p cs ds ls s t h l d m u → Walking w p b 0 0 s t h l
   walking_start cs ds ls s t h l d m u lent = record {
     rows = omega arith;
     count = ap length (sym (faults-zero w p b));
@@ -51,16 +49,10 @@ module _ (w p b : List ℕ) where
     goto_before = λ g y e z. absurd (omega arith);
   }
 
--- the tables are made, but for the lists, and the walk goes on from row 0
-pub walk-requires : {w p b : List ℕ} → Body w p b → (cs' ds' cs ds ls s t h l d m u : List ℕ) → Lent w p cs ds ls s t h l d m u → CanonTable p b cs'
-    → DeclaredTable w p b ds' → Tables w p b cs' ds' ls 0 × (Walking w p b 0 0 s t h l × Contexts w p b 0 d m)
-walk-requires {w} {p} {b} body cs' ds' cs ds ls s t h l d m u lent by_name by_canon = (
-  record { body = body; by_name = by_name; by_canon = by_canon; lists_room = lent.lists_room; listed = λ r z. absurd (omega arith) },
-  (
-    walking_start w p b cs ds ls s t h l d m u lent,
-    contexts-start lent.latest_decls_room lent.latest_decls_zero lent.latest_labels_room lent.latest_labels_zero,
-  ),
-)
+-- the tables are made, but for the lists
+pub first_tables : {w p b cs ds ls : List ℕ} → Body w p b → CanonTable p b cs → DeclaredTable w p b ds → row_count w ≤ length ls → Tables w p b cs ds ls 0
+first_tables body by_name by_canon room =
+    record { body = body; by_name = by_name; by_canon = by_canon; lists_room = room; listed = λ r z. absurd (omega arith) }
 
 -- ---- the walk's end
 module _ {w p b : List ℕ} (body : Body w p b) where
@@ -86,11 +78,6 @@ module _ {w p b : List ℕ} (body : Body w p b) where
   unfolding faults_left
   walked_more = omega (arith, length-append (faults_at w p b (row_count w)) (each (unresolved w p b) (row_count w)))
 
-  pub walked_end : (n : ℕ) (s t s' t' h l : List ℕ) → Walked w p b (row_count w) n s t s' t' h l → AtEnd w p b n s' t'
-  walked_end n s t s' t' h l y =
-      let x = y.state in
-      record { count = x.count; sheet_room = x.sheet_room; reported = x.reported; bindings_room = x.bindings_room; bound = x.bound }
-
   pub walked-answered : (n m k : ℕ) (s t s₁ t' h l s₂ s' : List ℕ) → Walked w p b (row_count w) n s t s₁ t' h l → Reported m (faults_left w p b) s₁ s₂
       → Reported k (sheet_of w p b) s₂ s' → Answered w p b k s t s' t'
   walked-answered n m k s t s₁ t' h l s₂ s' x left all =
@@ -110,22 +97,15 @@ module _ {w p b : List ℕ} (body : Body w p b) where
         bindings_kept = x.bindings_kept;
       }
 
--- the tables of the pending gotos, which the walk leaves as long as they were
-pub tables-room : {w p cs ds ls s t h l d m u : List ℕ} → Lent w p cs ds ls s t h l d m u → (i j : ℕ) → i ≡ length h → j ≡ length l
-    → (count_of_pairs p < i) × (row_count w ≤ j)
-tables-room lent i j e f = (omega (arith, lent.heads_room), omega (arith, lent.goto_or_label_room))
-
-pub unused-start : {w p b : List ℕ} (n m : ℕ) (s t s' : List ℕ) → AtEnd w p b n s t → Reported m (faults_left w p b) s s'
-    → Reported m (faults_left w p b) s' s' × (row_count w * 8 ≤ length s')
-unused-start n m s t s' a x = (
-  record { count = x.count; reported = x.reported; sheet_length = refl; sheet_kept = refl },
-  omega (arith, a.sheet_room, x.sheet_length),
-)
-
 -- ---- tables of 0
-pub lent-zeros : {w p b : List ℕ} → Body w p b → (m n : ℕ) (s t : List ℕ) → count_of_pairs p < m → row_count w ≤ n → Blank w s t
-    → Lent w p (replicate m 0) (replicate m 0) (replicate n 0) s t (replicate m 0) (replicate n 0) (replicate n 0) (replicate n 0) (replicate m 0)
-lent-zeros {w} {p} body m n s t h k blank =
+at_each : {A : Type 0} (n : ℕ) (x : A) (i : ℕ) → get_or (replicate n x) i x ≡ x
+at_each zero x i = refl
+at_each (suc n) x zero = refl
+at_each (suc n) x (suc i) = at_each n x i
+
+pub lent-zeros : {w p : List ℕ} (m n : ℕ) (s t : List ℕ) → (count_of_pairs p < m) × (row_count w ≤ n) → Blank w s t
+    → Lent w p (replicate m 0) (replicate m 0) (replicate n 0) s t (replicate m 0) (replicate n 0) (replicate n 0) (replicate n 0) (replicate m false)
+lent-zeros {w} {p} m n s t room blank =
     let names : count_of_pairs p < length {A = ℕ} (replicate m 0) = omega (arith, length-replicate {A = ℕ} m 0) in
     let rows : row_count w ≤ length {A = ℕ} (replicate n 0) = omega (arith, length-replicate {A = ℕ} n 0) in
     record {
@@ -138,16 +118,11 @@ lent-zeros {w} {p} body m n s t h k blank =
       goto_or_label_room = rows;
       latest_decls_room = rows;
       latest_labels_room = rows;
-      used_room = names;
-      label_rows_zero = zeros-at m;
+      used_room = omega (arith, length-replicate m false);
+      label_rows_zero = at_each m 0;
       bindings_zero = blank.bindings_zero;
-      heads_zero = zeros-at m;
-      latest_decls_zero = zeros-at n;
-      latest_labels_zero = zeros-at n;
-      used_zero = zeros-at m;
+      heads_zero = at_each m 0;
+      latest_decls_zero = at_each n 0;
+      latest_labels_zero = at_each n 0;
+      used_zero = at_each m false;
     }
-
-pub lent-large : {w p b : List ℕ} → Body w p b → (s t : List ℕ) → Blank w s t
-    → Lent w p (replicate 501 0) (replicate 501 0) (replicate 2000 0) s t (replicate 501 0) (replicate 2000 0) (replicate 2000 0) (replicate 2000 0)
-    (replicate 501 0)
-lent-large body s t = lent-zeros body 501 2000 s t (omega (arith, pair-most body)) body.most_rows

@@ -1,19 +1,17 @@
-// The label walk of a body with names, from its tables to the last row of its sheet. The tables come
-// in two sizes.
+// The label walk of a body with names, from its tables to the last row of its sheet.
 #![tactic(auto)]
 
 ghost use Rattle.std.specs.Prelude.{◌≤◌, ◌<◌};
 ghost use Rattle.rules.specs.Rows.{row_count};
 ghost use Rattle.rules.specs.Names.{count_of_pairs};
-ghost use Rattle.rules.specs.Body.{Body};
 ghost use Rattle.label_body.specs.Answered.{Blank, Lent, Answered};
+
+use body::Body;
 
 // The walk and what is left at its end. The tables of the pending gotos are free by then, and serve
 // to sort the unused labels.
 fn walk_body(
-    rows: &[u32],
-    pairs: &[u32],
-    bytes: &[u8],
+    body: Body<'_>,
     canonical: &mut [u32],
     label_rows: &mut [u16],
     lists: &mut [u16],
@@ -23,20 +21,17 @@ fn walk_body(
     goto_or_label: &mut [u16],
     latest_decls: &mut [u16],
     latest_labels: &mut [u16],
-    used: &mut [u8],
+    used: &mut [bool],
 ) -> usize
-    requires body { Body rows.now pairs.now bytes.now }
-    requires lent { Lent rows.now pairs.now canonical.old label_rows.old lists.old sheet.old
+    requires lent { Lent body.rows.now body.pairs.now canonical.old label_rows.old lists.old sheet.old
         bindings.old heads.old goto_or_label.old latest_decls.old latest_labels.old used.old }
-    ensures { Answered rows.now pairs.now bytes.now result sheet.old bindings.old sheet.new
+    ensures { Answered body.entry.rows.now body.entry.pairs.now body.entry.bytes.now result sheet.old bindings.old sheet.new
         bindings.new }
 {
-    tables::canon_table(pairs, bytes, canonical);
-    tables::declared_table(rows, pairs, bytes, canonical, label_rows);
+    tables::canon_table(body.names(), canonical);
+    tables::declared_table(body, canonical, label_rows);
     let walked = label_walk::rows_branches(
-        rows,
-        pairs,
-        bytes,
+        body,
         canonical,
         label_rows,
         lists,
@@ -47,85 +42,33 @@ fn walk_body(
         latest_decls,
         latest_labels,
     );
-    let more = label_rest::unresolved(
-        rows, pairs, bytes, canonical, label_rows, sheet, bindings, used, walked,
-    );
-    label_rest::unused(
-        rows,
-        pairs,
-        bytes,
-        label_rows,
-        used,
-        heads,
-        goto_or_label,
-        sheet,
-        more,
-    )
+    let more = label_rest::unresolved(body, canonical, label_rows, sheet, bindings, used, walked);
+    label_rest::unused(body, label_rows, used, heads, goto_or_label, sheet, more)
 }
 
-// The walk over tables for 500 names and 2,000 rows, once the bindings are 0.
-pub fn walk_large(
-    rows: &[u32],
-    pairs: &[u32],
-    bytes: &[u8],
+// The walk over tables for fewer than NAMES names and up to ROWS rows, once the bindings are 0. No
+// body needs larger ones, and tables cost time to make, so a caller takes small ones where they do.
+pub fn walk<const NAMES: usize, const ROWS: usize>(
+    body: Body<'_>,
     sheet: &mut [u32],
     bindings: &mut [u32],
 ) -> usize
-    requires body { Body rows.now pairs.now bytes.now }
-    requires blank { Blank rows.now sheet.old bindings.old }
-    ensures { Answered rows.now pairs.now bytes.now result sheet.old bindings.old sheet.new
+    requires room { (count_of_pairs body.pairs.now < NAMES) × (row_count body.rows.now ≤ ROWS) }
+    requires size { (NAMES ≤ 501) × (ROWS ≤ 2000) }
+    requires blank { Blank body.rows.now sheet.old bindings.old }
+    ensures { Answered body.entry.rows.now body.entry.pairs.now body.entry.bytes.now result sheet.old bindings.old sheet.new
         bindings.new }
 {
-    let mut canonical = [0u32; 501];
-    let mut label_rows = [0u16; 501];
-    let mut heads = [0u16; 501];
-    let mut used = [0u8; 501];
-    let mut lists = [0u16; 2000];
-    let mut goto_or_label = [0u16; 2000];
-    let mut latest_decls = [0u16; 2000];
-    let mut latest_labels = [0u16; 2000];
+    let mut canonical = [0u32; NAMES];
+    let mut label_rows = [0u16; NAMES];
+    let mut heads = [0u16; NAMES];
+    let mut used = [false; NAMES];
+    let mut lists = [0u16; ROWS];
+    let mut goto_or_label = [0u16; ROWS];
+    let mut latest_decls = [0u16; ROWS];
+    let mut latest_labels = [0u16; ROWS];
     walk_body(
-        rows,
-        pairs,
-        bytes,
-        &mut canonical,
-        &mut label_rows,
-        &mut lists,
-        sheet,
-        bindings,
-        &mut heads,
-        &mut goto_or_label,
-        &mut latest_decls,
-        &mut latest_labels,
-        &mut used,
-    )
-}
-
-// The same over tables for 31 names and 128 rows: most bodies are small, and tables cost time to make.
-pub fn walk_small(
-    rows: &[u32],
-    pairs: &[u32],
-    bytes: &[u8],
-    sheet: &mut [u32],
-    bindings: &mut [u32],
-) -> usize
-    requires body { Body rows.now pairs.now bytes.now × (count_of_pairs pairs.now < 32) × (row_count rows.now ≤ 128) }
-    requires blank { Blank rows.now sheet.old bindings.old }
-    ensures { Answered rows.now pairs.now bytes.now result sheet.old bindings.old sheet.new
-        bindings.new }
-{
-    let mut canonical = [0u32; 32];
-    let mut label_rows = [0u16; 32];
-    let mut heads = [0u16; 32];
-    let mut used = [0u8; 32];
-    let mut lists = [0u16; 128];
-    let mut goto_or_label = [0u16; 128];
-    let mut latest_decls = [0u16; 128];
-    let mut latest_labels = [0u16; 128];
-    walk_body(
-        rows,
-        pairs,
-        bytes,
+        body,
         &mut canonical,
         &mut label_rows,
         &mut lists,

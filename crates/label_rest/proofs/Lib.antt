@@ -2,5 +2,4 @@ pub mod LeftRows
 pub mod LeftTurns
 pub mod UnusedNames
 pub mod UnusedRanks
-pub mod SortedNames
 pub mod UnusedRows

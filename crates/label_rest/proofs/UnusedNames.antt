@@ -9,10 +9,10 @@ use mathlib.Core.Option.{none, some}
 use Prim.Native.Nat.{ℕ, zero, suc, ◌+◌, ◌-◌, ◌≤◌, ◌<◌}
 use native.Mathlib.Numerals.{add-one}
 use native.Mathlib.Omega.{arith}
-use lib.Dec.{eqb, leb}
-use lib.ListN.{length, get_or, take, set, length-set}
+use lib.Dec.{leb}
+use lib.ListN.{length, get_or, take, set}
 use lib.Seq.{length-take-le}
-use borrow.Author.Tests.{eq-eqb, ne_eqb, le-leb, lt-leb, leb-true, not-true}
+use borrow.Author.Tests.{le-leb, lt-leb, leb-true, not-true}
 use Rattle.rules.specs.Scan.{how_many}
 use Rattle.rules.specs.Rows.{row_count}
 use Rattle.rules.specs.Names.{count_of_pairs}
@@ -44,17 +44,17 @@ module _ (w p b : List ℕ) (c : ℕ) where
       (λ e. absurd (clash (cc (unused-none e))))
 
 -- as the tables say
-module _ {w p b ds u : List ℕ} (by_canon : DeclaredTable w p b ds) (uses : UsedTable w p b u) (c : ℕ) (z : 0 < c) (h : c ≤ count_of_pairs p) where
+module _ {w p b ds : List ℕ} {u : List Bool} (by_canon : DeclaredTable w p b ds) (uses : UsedTable w p b u) (c : ℕ) (z : 0 < c) (h : c ≤ count_of_pairs p) where
   no_label : get_or ds c 0 ≡ 0 → is_unused w p b c ≡ false
   no_label e = case-found (declared_for w p b c)
       (λ d f. let g = by_canon.at_canon c z h ∙ ap word f in absurd (omega arith))
       (λ f. unused-none w p b c f)
 
-  its-use : (get_or ds c 0 ≡ 0 → ⊥) → is_unused w p b c ≡ eqb (get_or u c 0) 0
+  its-use : (get_or ds c 0 ≡ 0 → ⊥) → is_unused w p b c ≡ not (get_or u c false)
   its-use n =
       let i : suc (get_or ds c 0 - 1) ≡ get_or ds c 0 = omega arith in
       let f = word-found (declared_for w p b c) (get_or ds c 0 - 1) (sym (by_canon.at_canon c z h) ∙ sym i) in
-      unused-some w p b c (get_or ds c 0 - 1) f ∙ sym (uses.at_canon c (get_or ds c 0 - 1) z h f)
+      unused-some w p b c (get_or ds c 0 - 1) f ∙ ap not (sym (uses.at_canon c (get_or ds c 0 - 1) z h f))
 
 -- ---- no more than the declared labels
 module _ (w p b : List ℕ) where
@@ -105,58 +105,56 @@ module _ {w p b : List ℕ} (body : Body w p b) where
     how_many-le (is_to w p b k) (is_declared w p b) (row_count w) (λ r h t. (and-true (is_declared w p b r) (leb (row_canon w p b r) k) t).0),
   )
 
--- ---- the loop: the state before the number c, with n numbers collected
-pub record Collected (w p b : List ℕ) (c n : ℕ) (l₀ l : List ℕ) : Type 0 where
-  pub from : 1 ≤ c
-  pub upto : c ≤ count_of_pairs p + 1
-  pub few : n ≤ c - 1
-  pub same_length : length l ≡ length l₀
+-- ---- the loop: n numbers below c are collected, at the start of l
+pub record Collected (w p b : List ℕ) (c n : ℕ) (l : List ℕ) : Type 0 where
+  pub few : n < c
   pub all : UnusedTo w p b (c - 1) (take n l)
 
-pub collected-start : (w p b l : List ℕ) → Collected w p b 1 0 l l
+pub collected-start : (w p b l : List ℕ) → Collected w p b 1 0 l
 unfolding passing how_many
-collected-start w p b l = record { from = omega arith; upto = omega arith; few = omega arith; same_length = refl; all = λ P. refl }
+collected-start w p b l = record { few = omega arith; all = λ P. refl }
 
-pub collected-end : {w p b l₀ l : List ℕ} {c n : ℕ} → Body w p b → count_of_pairs p < length l₀ → count_of_pairs p < c → Collected w p b c n l₀ l
+pub collected-end : {w p b l : List ℕ} {c n : ℕ} → Body w p b → c ≡ count_of_pairs p + 1 → n ≤ length l → Collected w p b c n l
     → (n ≤ count_of_pairs p) × (n ≤ row_count w) × UnusedTo w p b (count_of_pairs p) (take n l)
-collected-end {w} {p} {b} {l₀} {l} {c} {n} body room h x =
-    let i : c - 1 ≡ count_of_pairs p = omega (arith, x.upto) in
-    let all : UnusedTo w p b (count_of_pairs p) (take n l) = rw i at x.all in
-    let long = length-take-le n l (omega (arith, x.few, x.same_length)) in
-    (omega (arith, x.few), omega (arith, unused-few body (count_of_pairs p) (take n l) all, how_many-most (is_declared w p b) (row_count w)), all)
+collected-end {w} {p} {b} {l} {c} {n} body e room x =
+    let i : c - 1 ≡ count_of_pairs p = omega arith in
+    let all : UnusedTo w p b (count_of_pairs p) (take n l) = rw i at x.all in (
+      omega (arith, x.few),
+      omega (arith, unused-few body (count_of_pairs p) (take n l) all, length-take-le n l room, how_many-most (is_declared w p b) (row_count w)),
+      all,
+    )
 
 -- one turn
-module _ {w p b l₀ l : List ℕ} {c n : ℕ} (within : c ≤ count_of_pairs p) (state : Collected w p b c n l₀ l) where
+module _ {w p b l : List ℕ} {c n : ℕ} (within : c ≤ count_of_pairs p) (state : Collected w p b c n l) where
   number : suc (c - 1) ≡ c
-  number = omega (arith, state.from)
+  number = omega (arith, state.few)
 
-  next : (n' : ℕ) (l' : List ℕ) → n' ≤ c → length l' ≡ length l → UnusedTo w p b (suc (c - 1)) (take n' l') → Collected w p b (c + 1) n' l₀ l'
-  next n' l' h e all =
-      let i : c + 1 - 1 ≡ suc (c - 1) = omega (arith, state.from) in
-      record { from = omega arith; upto = omega arith; few = omega arith; same_length = e ∙ state.same_length; all = rw i all }
+  next : (n' : ℕ) (l' : List ℕ) → n' ≤ c → UnusedTo w p b (suc (c - 1)) (take n' l') → Collected w p b (c + 1) n' l'
+  next n' l' h all =
+      let i : c + 1 - 1 ≡ suc (c - 1) = omega (arith, state.few) in
+      record { few = omega arith; all = rw i all }
 
   -- the number is not one of them
-  not-collected : is_unused w p b c ≡ false → Collected w p b (c + 1) n l₀ l
-  not-collected f = next n l (omega (arith, state.few)) refl (λ P. state.all P ∙ sym (how_many-no (passes w p b P) (c - 1) (rw (number, f))))
+  not-collected : is_unused w p b c ≡ false → Collected w p b (c + 1) n l
+  not-collected f = next n l (omega (arith, state.few)) (λ P. state.all P ∙ sym (how_many-no (passes w p b P) (c - 1) (rw (number, f))))
 
   -- or is one of them
-  collected : is_unused w p b c ≡ true → n < length l → Collected w p b (c + 1) (n + 1) l₀ (set l n c)
+  collected : is_unused w p b c ≡ true → n < length l → Collected w p b (c + 1) (n + 1) (set l n c)
   unfolding passing
-  collected t h = next (n + 1) (set l n c) (omega (arith, state.few, state.from)) (length-set l n c)
+  collected t h = next (n + 1) (set l n c) (omega (arith, state.few))
       (λ P. rw (add-one n, passing-store P l n c h) (case-of (P c)
       (λ u. rw (u, passing) (omega (arith, state.all P, how_many-yes (passes w p b P) (c - 1) (rw (number, t, u)))))
       (λ u. rw (u, passing) (omega (arith, state.all P, how_many-no (passes w p b P) (c - 1) (rw (number, t, u)))))))
 
-  -- as the code has it: what the turn leaves has names of its own
-  module _ {ds u : List ℕ} (by_canon : DeclaredTable w p b ds) (uses : UsedTable w p b u) where
-    pub turn-none : get_or ds c 0 ≡ 0 → (n'' : ℕ) (l'' : List ℕ) → n'' ≡ n → l'' ≡ l → Collected w p b (c + 1) n'' l₀ l''
-    turn-none e n'' l'' i j = rw (i, j) (not-collected (no_label by_canon uses c state.from within e))
+  module _ {ds : List ℕ} {u : List Bool} (by_canon : DeclaredTable w p b ds) (uses : UsedTable w p b u) where
+    from : 0 < c
+    from = omega (arith, state.few)
 
-    module _ (some-label : get_or ds c 0 ≡ 0 → ⊥) where
-      pub turn-used : (get_or u c 0 ≡ 0 → ⊥) → (n'' : ℕ) (l'' : List ℕ) → n'' ≡ n → l'' ≡ l → Collected w p b (c + 1) n'' l₀ l''
-      turn-used o n'' l'' i j = rw (i, j) (not-collected (its-use by_canon uses c state.from within some-label ∙ ne_eqb (get_or u c 0) 0 o))
+    pub turn-none : get_or ds c 0 ≡ 0 → Collected w p b (c + 1) n l
+    turn-none e = not-collected (no_label by_canon uses c from within e)
 
-      pub turn-unused : get_or u c 0 ≡ 0 → count_of_pairs p < length l₀ → (n'' : ℕ) (l'' : List ℕ) → n'' ≡ n + 1 → l'' ≡ set l n c → Collected w p b (c + 1) n'' l₀ l''
-      turn-unused o room n'' l'' i j =
-          rw (i, j) (collected (its-use by_canon uses c state.from within some-label ∙ eq-eqb (get_or u c 0) 0 o)
-          (omega (arith, state.few, state.same_length)))
+    pub turn-used : (get_or ds c 0 ≡ 0 → ⊥) → get_or u c false ≡ true → Collected w p b (c + 1) n l
+    turn-used some-label o = not-collected (its-use by_canon uses c from within some-label ∙ ap not o)
+
+    pub turn-unused : (get_or ds c 0 ≡ 0 → ⊥) → get_or u c false ≡ false → n < length l → Collected w p b (c + 1) (n + 1) (set l n c)
+    turn-unused some-label o h = collected (its-use by_canon uses c from within some-label ∙ ap not o) h

@@ -129,19 +129,13 @@ module _ {w p b : List ℕ} (body : Body w p b) (s : List ℕ) (all : UnusedTo w
   nines-room = omega (arith, unused-few body (count_of_pairs p) s all, left-count w p b (row_count w), all_room body)
 
 -- ---- the loop over the names: the state before the j-th
-abbrev pub Nines : (w p b s : List ℕ) → ℕ → ℕ → List ℕ → List ℕ → Type 0
-Nines w p b s j at t₀ t = (j ≤ length s) × Reported at (nines_to w p b (up_to p b s j)) t₀ t
-
-pub nines-start : (w p b s : List ℕ) (at : ℕ) (t : List ℕ) → Reported at (faults_left w p b) t t → Nines w p b s 0 at t t
+pub nines-start : (w p b s : List ℕ) (at : ℕ) (t : List ℕ) → Reported at (faults_left w p b) t t → Reported at (nines_to w p b (up_to p b s 0)) t t
 unfolding up_to
-nines-start w p b s at t x = (omega arith, rw (nines-zero w p b) x)
+nines-start w p b s at t x = rw (nines-zero w p b) x
 
-pub nines-all : {w p b : List ℕ} (s : List ℕ) (j at : ℕ) (t₀ t : List ℕ) → Body w p b → Sorted p b s → UnusedTo w p b (count_of_pairs p) s → length s ≤ j
-    → Nines w p b s j at t₀ t
-    → Reported at (sheet_of w p b) t₀ t
-nines-all {w} {p} {b} s j at t₀ t body sorted all h (l, x) =
-    let e : j ≡ length s = omega arith in
-    rw (ap (λ (n : ℕ). nines_to w p b (up_to p b s n)) e ∙ nines-end body s all sorted) at x
+pub nines-all : {w p b : List ℕ} (s : List ℕ) (j at : ℕ) (t₀ t : List ℕ) → Body w p b → Sorted p b s → UnusedTo w p b (count_of_pairs p) s → j ≡ length s
+    → Reported at (nines_to w p b (up_to p b s j)) t₀ t → Reported at (sheet_of w p b) t₀ t
+nines-all {w} {p} {b} s j at t₀ t body sorted all e x = rw (ap (λ (n : ℕ). nines_to w p b (up_to p b s n)) e ∙ nines-end body s all sorted) at x
 
 -- the j-th name c, with the word d in the table of declared labels
 pub record AtName (w p b ds s t₀ t : List ℕ) (j at c d : ℕ) : Type 0 where
@@ -153,7 +147,7 @@ pub record AtName (w p b ds s t₀ t : List ℕ) (j at c d : ℕ) : Type 0 where
   pub more : j < length s
   pub name-is : c ≡ get_or s j 0
   pub word-is : d ≡ get_or ds c 0
-  pub state : Nines w p b s j at t₀ t
+  pub state : Reported at (nines_to w p b (up_to p b s j)) t₀ t
 
 -- a name of the list is within the table
 pub name-within-table : {w p b ds : List ℕ} (s : List ℕ) (j : ℕ) → Body w p b → DeclaredTable w p b ds → UnusedTo w p b (count_of_pairs p) s → j < length s
@@ -178,27 +172,26 @@ module _ {w p b ds s t₀ t : List ℕ} {j at c d : ℕ} (n : AtName w p b ds s 
 
   longer : at + 1 ≤ 2 * row_count w
   longer =
-      omega (arith, n.more, n.state.1.count, nines-length n.body s n.all n.sorted j n.state.0, nines-room n.body s n.all n.sorted)
+      omega (arith, n.more, n.state.count, nines-length n.body s n.all n.sorted j (omega (arith, n.more)), nines-room n.body s n.all n.sorted)
 
   pub fault-small : at + 1 ≤ 4000
   fault-small = omega (arith, longer, n.body.most_rows)
 
   pub fault-fits : at * 4 + 4 ≤ length t
-  fault-fits = omega (arith, longer, n.state.1.sheet_length, n.room)
+  fault-fits = omega (arith, longer, n.state.sheet_length, n.room)
 
-  pub turn : (t' : List ℕ) → t' ≡ sets t (at * 4) (9 ∷ position w (d - 1) ∷ name w (d - 1) ∷ 0 ∷ []) → Nines w p b s (j + 1) (at + 1) t₀ t'
+  pub turn : (t' : List ℕ) → t' ≡ sets t (at * 4) (9 ∷ position w (d - 1) ∷ name w (d - 1) ∷ 0 ∷ [])
+      → Reported (at + 1) (nines_to w p b (up_to p b s (j + 1))) t₀ t'
   turn t' i =
       let (e, g, u, k) = label in
       let m : d - 1 ≡ e = omega arith in
       let f = fault w 9 (d - 1) in
       let before = nines_to w p b (up_to p b s j) in
       let q : nines_to w p b (up_to p b s (j + 1)) ≡ before ++ f ∷ [] = rw (add-one j, m) (nines-next n.body s n.all n.sorted j e n.more g u) in
-      let x = n.state.1 in (
-        omega (arith, n.more),
-        record {
-          count = ap (λ (k : ℕ). k + 1) x.count ∙ sym (ap length q ∙ snoc-length before f);
-          reported = rw (i, q) (put-reported t at f fault-fits before x.reported);
-          sheet_length = ap length i ∙ put-length t at f fault-fits ∙ x.sheet_length;
-          sheet_kept = rw i (put-kept t at f fault-fits) ∙ drop-further (at * 4) ((at + 1) * 4) t t₀ (omega arith) x.sheet_kept;
-        },
-      )
+      let x = n.state in
+      record {
+        count = ap (λ (k : ℕ). k + 1) x.count ∙ sym (ap length q ∙ snoc-length before f);
+        reported = rw (i, q) (put-reported t at f fault-fits before x.reported);
+        sheet_length = ap length i ∙ put-length t at f fault-fits ∙ x.sheet_length;
+        sheet_kept = rw i (put-kept t at f fault-fits) ∙ drop-further (at * 4) ((at + 1) * 4) t t₀ (omega arith) x.sheet_kept;
+      }

@@ -6,7 +6,6 @@ use mathlib.Core.Bool.{Bool, true, false, ◌&&◌, not}
 use mathlib.Core.List.{List}
 use mathlib.Core.Option.{some}
 use Prim.Native.Nat.{ℕ, suc, ◌+◌, ◌-◌, ◌≤◌, ◌<◌}
-use native.Mathlib.Numerals.{add-one}
 use native.Mathlib.Omega.{arith}
 use native.Mathlib.Decide.{ℕ_discrete}
 use lib.ListN.{length, get_or, set, length-set}
@@ -120,9 +119,3 @@ module _ {w p b ls : List ℕ} {x : ℕ} (t : Listing w p b ls (suc x)) (h : x <
 pub lists-next : (w ls ls₀ : List ℕ) (r v : ℕ) → length ls ≡ length ls₀ → row_count w ≤ length ls₀ → r < row_count w
     → v ≡ word (innermost w holds_items r) → ListedBelow w ls r → (length (set ls r v) ≡ length ls₀) × ListedBelow w (set ls r v) (r + 1)
 lists-next w ls ls₀ r v same room h e listed = (length-set ls r v ∙ same, listed_more w ls r v (omega arith) e listed)
-
-pub tables-next : {w p b cs ds : List ℕ} (ls ls₀ : List ℕ) (r v : ℕ) → Tables w p b cs ds ls₀ 0 → length ls ≡ length ls₀ → r < row_count w
-    → v ≡ word (innermost w holds_items r) → ListedBelow w ls r → Tables w p b cs ds (set ls r v) (suc r)
-tables-next {w} ls ls₀ r v t same h e listed =
-    let n = lists-next w ls ls₀ r v same t.lists_room h e listed in
-    record { body = t.body; by_name = t.by_name; by_canon = t.by_canon; lists_room = omega (arith, n.0, t.lists_room); listed = rw add-one at n.1 }

@@ -1,53 +1,51 @@
--- A row by its kind k and its detail v, where it is no label and no branch. With detail 1 it is no Block, and a declaration if it is a Decl or Assign;
--- with another detail it is no declaration. So the two tables that such rows write are right after it.
+-- A row that is no label and no branch, by its kind and its detail. With detail 1 it is no Block, and a declaration if it is a Decl or Assign; with another
+-- detail it is no declaration. So the two tables that such rows write are right after it.
 -- Assumes nothing.
 use mathlib.Core.Path.{◌≡◌, refl, sym, ◌∙◌}
-use mathlib.Core.Bool.{Bool, true, false, ◌||◌}
+use mathlib.Core.Bool.{Bool, false, ◌||◌}
 use mathlib.Core.List.{List}
 use Prim.Native.Nat.{ℕ, suc, ◌≤◌, ◌<◌}
 use lib.Dec.{eqb}
-use lib.ListN.{length, set}
+use lib.ListN.{set}
 use Rattle.rules.specs.Rows.{row_count, kind, detail}
 use Rattle.rules.specs.Class.{declaration, class}
 use Rattle.rules.specs.Scope.{is_block}
 use Rattle.rules.specs.Labels.{is_class, word}
 use Rattle.rules.proofs.Test.{clash}
 use Rattle.walk_state.specs.Walk.{latest_in, current_label}
-use Rattle.label_walk.specs.Contexts.{latest_label, ListTable, Listing, Contexts, BlockLabelled}
-use Rattle.label_walk.proofs.RowWords.{is_block_lem, no_block, is-declaration, other-detail, other-kind, no-block-detail}
+use Rattle.label_walk.specs.Contexts.{ListTable, Listing, Contexts, BlockLabelled}
+use Rattle.label_walk.proofs.RowWords.{is-block, no_block, no-declaration, other-detail, no-block-detail}
 use Rattle.label_walk.proofs.ContextRows.{latest-decls-kept}
 
-module _ {w p b ls d m : List ℕ} {upto : ℕ} (t : Listing w p b ls upto) (x : ℕ) (h : x < row_count w) (contexts : Contexts w p b x d m)
-    (k : ℕ) (e : k ≡ kind w x) (v : ℕ) (ev : v ≡ detail w x) where
-  no-link : is_block (class w x) ≡ false → {l : List ℕ} → BlockLabelled w p b x l l
-  no-link n = record { at_block = λ i. absurd (clash (cc)); elsewhere = λ i. refl }
+-- what the code for such a row requires
+abbrev pub AtPlain : (w p b ls d m : List ℕ) (x room : ℕ) → Type 0
+AtPlain w p b ls d m x room = record {
+  listing : Listing w p b ls (suc x);
+  contexts : Contexts w p b x d m;
+  row_bound : (x < row_count w) × (row_count w ≤ room);
+}
+
+module _ {w p b ls d m : List ℕ} {x room : ℕ} (q : AtPlain w p b ls d m x room) where
+  unlinked : is_block (class w x) ≡ false → {l : List ℕ} → BlockLabelled w p b x l l
+  unlinked n = record { at_block = λ i. absurd (clash (cc)); elsewhere = λ i. refl }
 
   kept : is_class w declaration x ≡ false → ListTable w (latest_in w p b) (suc x) d
-  kept n = latest-decls-kept w p b x d n contexts.latest_decls_are
+  kept n = latest-decls-kept w p b x d n q.contexts.latest_decls_are
 
-  -- ---- detail 1
-  module _ (i : v ≡ 1) {q : Bool} (eq : q ≡ (eqb k 1 || eqb k 7)) where
-    pub declared-asks : q ≡ true → Listing w p b ls upto × (Contexts w p b x d m × ((x < row_count w) × (is_class w declaration x ≡ true)))
-    declared-asks y = (t, (contexts, (h, is-declaration t.body x h k e v ev i (sym eq ∙ y))))
+  pub unlinked-block : (kind w x ≡ 12 → ⊥) → {l : List ℕ} → BlockLabelled w p b x l l
+  unlinked-block n = unlinked (no_block q.listing.body q.row_bound.0 n)
 
-    pub declared-gives : {l d' : List ℕ} → ListTable w (latest_in w p b) (suc x) d'
-        → BlockLabelled w p b x l l × ListTable w (latest_in w p b) (suc x) d'
-    declared-gives c = (no-link (no-block-detail t.body x h k e v ev i), c)
+  pub linked-block : {l l' : List ℕ} → kind w x ≡ 12 → l' ≡ set l x (word (current_label w p b x)) → BlockLabelled w p b x l l'
+  linked-block i g = record { at_block = λ y. g; elsewhere = λ f. absurd (clash (cc (is-block q.listing.body q.row_bound.0 i))) }
 
-    pub undeclared-gives : q ≡ false → {l : List ℕ} → BlockLabelled w p b x l l × ListTable w (latest_in w p b) (suc x) d
-    undeclared-gives n = (no-link (no-block-detail t.body x h k e v ev i), kept (other-kind t.body x h k e (sym eq ∙ n)))
+  -- k is the row's kind, and t what `may_declare` says of it
+  pub undeclared : {k : ℕ} {t : Bool} → k ≡ kind w x → t ≡ (eqb k 1 || eqb k 7) → t ≡ false → ListTable w (latest_in w p b) (suc x) d
+  undeclared e i f = kept (no-declaration q.listing.body q.row_bound.0 (sym e) (sym i ∙ f))
 
-  -- ---- another detail
-  pub block-asks : (l : List ℕ) → row_count w ≤ length l → k ≡ 12
-      → Listing w p b ls upto × (ListTable w (latest_label w p b) x m × ((x < row_count w) × (is_block (class w x) ≡ true) × (row_count w ≤ length l)))
-  block-asks l room i = (t, (contexts.latest_labels_are, (h, is_block_lem t.body x h k e i, room)))
+  -- v is its detail
+  module _ {v : ℕ} (ev : v ≡ detail w x) where
+    pub unlinked-detail : v ≡ 1 → {l : List ℕ} → BlockLabelled w p b x l l
+    unlinked-detail i = unlinked (no-block-detail q.listing.body q.row_bound.0 ev i)
 
-  pub block-gives : {l l' : List ℕ} → (v ≡ 1 → ⊥) → k ≡ 12 → l' ≡ set l x (word (current_label w p b x))
-      → BlockLabelled w p b x l l' × ListTable w (latest_in w p b) (suc x) d
-  block-gives n i g = (
-    record { at_block = λ y. g; elsewhere = λ f. absurd (clash (cc (is_block_lem t.body x h k e i))) },
-    kept (other-detail t.body x h k e v ev n),
-  )
-
-  pub other-gives : {l : List ℕ} → (v ≡ 1 → ⊥) → (k ≡ 12 → ⊥) → BlockLabelled w p b x l l × ListTable w (latest_in w p b) (suc x) d
-  other-gives n i = (no-link (no_block t.body x h k e i), kept (other-detail t.body x h k e v ev n))
+    pub undeclared-detail : (v ≡ 1 → ⊥) → ListTable w (latest_in w p b) (suc x) d
+    undeclared-detail n = kept (other-detail q.listing.body q.row_bound.0 ev n)

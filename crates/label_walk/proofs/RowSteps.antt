@@ -1,73 +1,72 @@
--- One row of the walk by its kind k: what the call for it asks, and the state after it. A label changes the table of the labels, a branch what it is bound to,
--- every other row at most its own link and the table of the declarations.
+-- One row of the walk by its kind: the two tables of the lists, the list in hand and the state after it. A label changes the table of the labels, a branch
+-- neither table, and every other row at most its own link and the table of the declarations. A label and a branch hold no items, so the list in hand stays.
 -- Assumes nothing.
-use mathlib.Core.Path.{◌≡◌}
+use mathlib.Core.Path.{◌≡◌, refl}
 use mathlib.Core.Bool.{true}
-use mathlib.Core.List.{List, [], ◌∷◌}
-use mathlib.Core.Logic.{◌⊎◌, ⊎_elim}
-use Prim.Native.Nat.{ℕ, suc, ◌+◌, ◌≤◌, ◌<◌}
-use native.Mathlib.Omega.{arith}
-use lib.ListN.{length}
+use mathlib.Core.List.{List}
+use Prim.Native.Nat.{ℕ, suc, ◌+◌, ◌<◌}
 use Rattle.rules.specs.Rows.{row_count, kind}
 use Rattle.rules.specs.Class.{labeled, is_branch, class}
 use Rattle.rules.specs.Scope.{is_block}
-use Rattle.rules.proofs.Test.{case-of}
-use Rattle.rules.proofs.ByKind.{NoneOf}
+use Rattle.rules.proofs.Test.{case-of, clash}
 use Rattle.lists.specs.Listed.{InHand, ListAround}
 use Rattle.lists.proofs.Opened.{passes_on}
 use Rattle.tables.specs.Canon.{Tables}
 use Rattle.walk_state.specs.Walk.{latest_in, Walking, Walked}
-use Rattle.label_walk.specs.Contexts.{latest_label, ListTable, Listing, Contexts, BlockLabelled}
-use Rattle.label_walk.proofs.RowWords.{is-labeled, no_label, is-branch, no-branch, no_items, no-declaration}
-use Rattle.label_walk.proofs.ListRows.{listing}
+use Rattle.label_walk.specs.Contexts.{latest_label, ListTable, Contexts, BlockLabelled}
+use Rattle.label_walk.proofs.RowWords.{is-labeled, is-branch, no_label, no-branch, no_items, no-declaration}
 use Rattle.label_walk.proofs.ContextRows.{latest-decls-kept, latest-labels-kept, contexts-kept}
 use Rattle.label_walk.proofs.WalkSteps.{passed, linked}
 
-module _ {w p b cs ds ls : List ℕ} {upto : ℕ} (t : Tables w p b cs ds ls upto) (x : ℕ) (h : x < row_count w) {f : ℕ} {s bs hs l d m : List ℕ}
-    (walking : Walking w p b x f s bs hs l) (contexts : Contexts w p b x d m) (k : ℕ) (e : k ≡ kind w x) where
-  -- ---- Labeled
-  pub labeled-asks : k ≡ 3 → Tables w p b cs ds ls upto × (Walking w p b x f s bs hs l × (Contexts w p b x d m × ((x < row_count w) × (class w x ≡ labeled))))
-  labeled-asks i = (t, (walking, (contexts, (h, is-labeled t.body x h k e i))))
+-- what the code for a row requires
+abbrev pub AtRow : (w p b cs ds ls sheet bindings heads links d m : List ℕ) (x faults list end : ℕ) → Type 0
+AtRow w p b cs ds ls sheet bindings heads links d m x faults list end = record {
+  tables : Tables w p b cs ds ls (suc x);
+  walking : Walking w p b x faults sheet bindings heads links;
+  contexts_before : Contexts w p b x d m;
+  row_bound : (x < row_count w) × ListAround w list end x;
+}
 
-  pub labeled-gives : {f' : ℕ} {s' b' h' m' : List ℕ} → k ≡ 3 → Walked w p b (suc x) f' s bs s' b' h' l × ListTable w (latest_label w p b) (suc x) m'
-      → Walked w p b (suc x) f' s bs s' b' h' l × Contexts w p b (suc x) d m'
-  labeled-gives i (a, c) = (
-    a,
-    record {
-      latest_decls_are = latest-decls-kept w p b x d (no-declaration t.body x h k e (λ j. omega arith) (λ j. omega arith)) contexts.latest_decls_are;
-      latest_labels_are = c;
-    },
-  )
+module _ {w p b cs ds ls sheet bindings heads links d m : List ℕ} {x faults list end : ℕ}
+    (q : AtRow w p b cs ds ls sheet bindings heads links d m x faults list end) where
+  -- ---- Labeled
+  pub label-row : kind w x ≡ 3 → (x < row_count w) × (class w x ≡ labeled)
+  label-row i = (q.row_bound.0, is-labeled q.tables.body q.row_bound.0 i)
+
+  pub label-contexts : {m' : List ℕ} → kind w x ≡ 3 → ListTable w (latest_label w p b) (suc x) m' → Contexts w p b (suc x) d m'
+  label-contexts i c = record {
+    latest_decls_are = latest-decls-kept w p b x d (no-declaration q.tables.body q.row_bound.0 i refl) q.contexts_before.latest_decls_are;
+    latest_labels_are = c;
+  }
+
+  pub label-passes : kind w x ≡ 3 → InHand w list end (x + 1)
+  label-passes i = passes_on w list end x (no_items q.tables.body q.row_bound.0 i refl) q.row_bound.1
 
   -- ---- Branch
-  pub branch-asks : k ≡ 11 → Tables w p b cs ds ls upto × (Walking w p b x f s bs hs l × ((x < row_count w) × (is_branch (class w x) ≡ true)))
-  branch-asks i = (t, (walking, (h, is-branch t.body x h k e i)))
+  pub branch-row : kind w x ≡ 11 → (x < row_count w) × (is_branch (class w x) ≡ true)
+  branch-row i = (q.row_bound.0, is-branch q.tables.body q.row_bound.0 i)
 
-  pub branch-gives : {f' : ℕ} {s' b' h' l' : List ℕ} → k ≡ 11 → Walked w p b (suc x) f' s bs s' b' h' l'
-      → Walked w p b (suc x) f' s bs s' b' h' l' × Contexts w p b (suc x) d m
-  branch-gives i a = (
-    a,
-    contexts-kept (no-declaration t.body x h k e (λ j. omega arith) (λ j. omega arith)) (no_label t.body x h k e (λ j. omega arith)) contexts,
-  )
+  pub branch-contexts : kind w x ≡ 11 → Contexts w p b (suc x) d m
+  branch-contexts i = contexts-kept (no-declaration q.tables.body q.row_bound.0 i refl)
+      (no_label q.tables.body q.row_bound.0 (λ j. clash (cc))) q.contexts_before
 
-  -- ---- neither holds items
-  pub passes : (k ≡ 3) ⊎ (k ≡ 11) → {o g : ℕ} → ListAround w o g x → InHand w o g (x + 1)
-  passes i {o} {g} = passes_on w o g x (no_items t.body x h k e
-      (λ j. ⊎_elim (λ (q : k ≡ 3). omega arith) (λ (q : k ≡ 11). omega arith) i)
-      (λ j. ⊎_elim (λ (q : k ≡ 3). omega arith) (λ (q : k ≡ 11). omega arith) i)
-      (λ j. ⊎_elim (λ (q : k ≡ 3). omega arith) (λ (q : k ≡ 11). omega arith) i))
+  pub branch-passes : kind w x ≡ 11 → InHand w list end (x + 1)
+  branch-passes i = passes_on w list end x (no_items q.tables.body q.row_bound.0 i refl) q.row_bound.1
 
   -- ---- the others
-  pub plain-asks : Listing w p b ls upto × (Contexts w p b x d m × ((x < row_count w) × (row_count w ≤ length l)))
-  plain-asks = (listing t, (contexts, (h, walking.block_labels.0)))
-
-  pub plain-gives : {l' d' : List ℕ} → NoneOf (11 ∷ 3 ∷ []) k → BlockLabelled w p b x l l' × ListTable w (latest_in w p b) (suc x) d'
-      → Walked w p b (suc x) f s bs s bs hs l' × Contexts w p b (suc x) d' m
-  plain-gives {l'} ((_, label), branch) (g, c) =
-      let no-label-here = no_label t.body x h k e label in
-      let no-branch-here = no-branch t.body x h k e branch in (
+  module _ (n : kind w x ≡ 3 → ⊥) where
+    pub plain-walked : {links' : List ℕ} → (kind w x ≡ 11 → ⊥) → BlockLabelled w p b x links links'
+        → Walked w p b (suc x) faults sheet bindings sheet bindings heads links'
+    plain-walked o g =
+        let h = q.row_bound.0 in
+        let no-label-here = no_label q.tables.body h n in
+        let no-branch-here = no-branch q.tables.body h o in
         case-of (is_block (class w x))
-            (λ y. linked h walking no-label-here no-branch-here (g.at_block y))
-            (λ n. rw (g.elsewhere n) (passed h walking no-label-here no-branch-here n)),
-        record { latest_decls_are = c; latest_labels_are = latest-labels-kept w p b x m no-label-here contexts.latest_labels_are },
-      )
+        (λ y. linked h q.walking no-label-here no-branch-here (g.at_block y))
+        (λ z. rw (g.elsewhere z) (passed h q.walking no-label-here no-branch-here z))
+
+    pub plain-contexts : {d' : List ℕ} → ListTable w (latest_in w p b) (suc x) d' → Contexts w p b (suc x) d' m
+    plain-contexts c = record {
+      latest_decls_are = c;
+      latest_labels_are = latest-labels-kept w p b x m (no_label q.tables.body q.row_bound.0 n) q.contexts_before.latest_labels_are;
+    }

@@ -18,7 +18,6 @@ use Rattle.rules.proofs.Every.{every, same, same-eq, implies, class_at, of-class
 use Rattle.rules.proofs.Details.{of-allowed}
 use Rattle.rules.proofs.ClassTests.{one-is}
 use Rattle.rules.proofs.LabelRows.{other-label}
-use Rattle.jumps.proofs.ListClimb.{block-kind}
 
 own-words : (P : Class → Bool) → every 23 (λ i. every 23 (λ j. same (P (following (class_at i) (class_at j))) (P (class_at j)))) ≡ true
     → (w : List ℕ) (r : ℕ) → P (class w r) ≡ P (base w r)
@@ -37,7 +36,7 @@ by-words T P e f {w} body x h =
     (of-allowed (λ k d. same (T k d) (P (class_of k d))) e (kind w x) (detail w x) (body.details x h))
     ∙ sym (own-words P f w x)
 
-module _ {w p b : List ℕ} (body : Body w p b) (x : ℕ) (h : x < row_count w) where
+module _ {w p b : List ℕ} (body : Body w p b) {x : ℕ} (h : x < row_count w) where
   label-words : eqb (kind w x) 3 ≡ is_class w labeled x
   unfolding every lowest detail_allowed class_of
   label-words = by-words (λ k d. eqb k 3) (one_of (labeled ∷ [])) refl refl body x h
@@ -47,7 +46,8 @@ module _ {w p b : List ℕ} (body : Body w p b) (x : ℕ) (h : x < row_count w) 
   branch-words = by-words (λ k d. eqb k 11) is_branch refl refl body x h
 
   block_words : eqb (kind w x) 12 ≡ is_block (class w x)
-  block_words = block-kind w x (body.details x h)
+  unfolding every lowest detail_allowed class_of
+  block_words = by-words (λ k d. eqb k 12) is_block refl refl body x h
 
   block-detail : (eqb (kind w x) 12 && not (eqb (detail w x) 1)) ≡ is_block (class w x)
   unfolding every lowest detail_allowed class_of
@@ -61,43 +61,39 @@ module _ {w p b : List ℕ} (body : Body w p b) (x : ℕ) (h : x < row_count w) 
   unfolding every lowest detail_allowed class_of
   items-words = by-words (λ k d. eqb k 12 || (eqb k 14 || eqb k 17)) holds_items refl refl body x h
 
-  -- ---- by the kind that the code has read
-  module _ (k : ℕ) (e : k ≡ kind w x) where
-    pub is-labeled : k ≡ 3 → class w x ≡ labeled
-    is-labeled i = is_one (class w x) labeled (sym label-words ∙ eq-eqb (kind w x) 3 (sym e ∙ i))
+  -- ---- by the kind
+  pub is-labeled : kind w x ≡ 3 → class w x ≡ labeled
+  is-labeled i = is_one (class w x) labeled (sym label-words ∙ eq-eqb (kind w x) 3 i)
 
-    pub no_label : (k ≡ 3 → ⊥) → is_label w p b x ≡ false
-    no_label n = other-label w p b x (λ c. clash (cc (label-words, one-is (class w x) labeled c, ne_eqb (kind w x) 3 (λ i. n (e ∙ i)))))
+  pub no_label : (kind w x ≡ 3 → ⊥) → is_label w p b x ≡ false
+  no_label n = other-label w p b x (λ c. clash (cc (label-words, one-is (class w x) labeled c, ne_eqb (kind w x) 3 n)))
 
-    pub is-branch : k ≡ 11 → is_branch (class w x) ≡ true
-    is-branch i = sym branch-words ∙ eq-eqb (kind w x) 11 (sym e ∙ i)
+  pub is-branch : kind w x ≡ 11 → is_branch (class w x) ≡ true
+  is-branch i = sym branch-words ∙ eq-eqb (kind w x) 11 i
 
-    pub no-branch : (k ≡ 11 → ⊥) → is_branch (class w x) ≡ false
-    no-branch n = sym branch-words ∙ ne_eqb (kind w x) 11 (λ i. n (e ∙ i))
+  pub no-branch : (kind w x ≡ 11 → ⊥) → is_branch (class w x) ≡ false
+  no-branch n = sym branch-words ∙ ne_eqb (kind w x) 11 n
 
-    pub is_block_lem : k ≡ 12 → is_block (class w x) ≡ true
-    is_block_lem i = sym block_words ∙ eq-eqb (kind w x) 12 (sym e ∙ i)
+  pub is-block : kind w x ≡ 12 → is_block (class w x) ≡ true
+  is-block i = sym block_words ∙ eq-eqb (kind w x) 12 i
 
-    pub no_block : (k ≡ 12 → ⊥) → is_block (class w x) ≡ false
-    no_block n = sym block_words ∙ ne_eqb (kind w x) 12 (λ i. n (e ∙ i))
+  pub no_block : (kind w x ≡ 12 → ⊥) → is_block (class w x) ≡ false
+  no_block n = sym block_words ∙ ne_eqb (kind w x) 12 n
 
-    pub no_items : (k ≡ 12 → ⊥) → (k ≡ 14 → ⊥) → (k ≡ 17 → ⊥) → holds_items (class w x) ≡ false
-    no_items l m n =
-        sym items-words ∙ rw (ne_eqb (kind w x) 12 (λ i. l (e ∙ i)), ne_eqb (kind w x) 14 (λ i. m (e ∙ i)), ne_eqb (kind w x) 17 (λ i. n (e ∙ i)))
+  -- a label or a branch holds no items and declares nothing
+  pub no_items : {k : ℕ} → kind w x ≡ k → (eqb k 12 || (eqb k 14 || eqb k 17)) ≡ false → holds_items (class w x) ≡ false
+  no_items e f = sym items-words ∙ rw (e, f)
 
-    pub no-declaration : (k ≡ 1 → ⊥) → (k ≡ 7 → ⊥) → is_class w declaration x ≡ false
-    no-declaration m n = sym declaration-words ∙ rw (ne_eqb (kind w x) 1 (λ i. m (e ∙ i)), ne_eqb (kind w x) 7 (λ i. n (e ∙ i)))
+  pub no-declaration : {k : ℕ} → kind w x ≡ k → (eqb k 1 || eqb k 7) ≡ false → is_class w declaration x ≡ false
+  no-declaration e f = sym declaration-words ∙ rw (e, f)
 
-    -- ---- and by the detail
-    module _ (v : ℕ) (ev : v ≡ detail w x) where
-      pub is-declaration : v ≡ 1 → (eqb k 1 || eqb k 7) ≡ true → is_class w declaration x ≡ true
-      is-declaration i q = sym declaration-words ∙ rw (sym e, q, eq-eqb (detail w x) 1 (sym ev ∙ i))
+  -- ---- by the detail that the code has read, and by its test of the kind
+  module _ {v : ℕ} (ev : v ≡ detail w x) where
+    pub is-declaration : {k : ℕ} → v ≡ 1 → k ≡ kind w x → (eqb k 1 || eqb k 7) ≡ true → is_class w declaration x ≡ true
+    is-declaration i e q = sym declaration-words ∙ rw (sym e, q, eq-eqb (detail w x) 1 (sym ev ∙ i))
 
-      pub other-detail : (v ≡ 1 → ⊥) → is_class w declaration x ≡ false
-      other-detail n = sym declaration-words ∙ rw (ne_eqb (detail w x) 1 (λ i. n (ev ∙ i)), and-false)
+    pub other-detail : (v ≡ 1 → ⊥) → is_class w declaration x ≡ false
+    other-detail n = sym declaration-words ∙ rw (ne_eqb (detail w x) 1 (λ i. n (ev ∙ i)), and-false)
 
-      pub no-block-detail : v ≡ 1 → is_block (class w x) ≡ false
-      no-block-detail i = sym block-detail ∙ rw (eq-eqb (detail w x) 1 (sym ev ∙ i), and-false)
-
-    pub other-kind : (eqb k 1 || eqb k 7) ≡ false → is_class w declaration x ≡ false
-    other-kind q = sym declaration-words ∙ rw (sym e, q)
+    pub no-block-detail : v ≡ 1 → is_block (class w x) ≡ false
+    no-block-detail i = sym block-detail ∙ rw (eq-eqb (detail w x) 1 (sym ev ∙ i), and-false)

@@ -75,16 +75,6 @@ pub record Turn (w p b : List ℕ) (x f : ℕ) (s₀ b₀ h₀ l₀ d₀ t₀ s 
   pub latest-decls-length : length d ≡ length d₀
   pub latest-labels-length : length t ≡ length t₀
 
-pub turn-first : {w p b s bs hs l d t : List ℕ} → Walking w p b 0 0 s bs hs l → Contexts w p b 0 d t → Turn w p b 0 0 s bs hs l d t s bs hs l d t
-turn-first a c = record {
-  so_far = record { state = a; sheet_length = refl; sheet_kept = refl; bindings_length = refl; bindings_kept = refl };
-  contexts = c;
-  heads-length = refl;
-  goto-or-label-length = refl;
-  latest-decls-length = refl;
-  latest-labels-length = refl;
-}
-
 pub turn-next : {w p b s₀ b₀ h₀ l₀ d₀ t₀ s bs hs l d t s' b' h' l' d' t' : List ℕ} {x f f' : ℕ} → Turn w p b x f s₀ b₀ h₀ l₀ d₀ t₀ s bs hs l d t
     → Walked w p b (suc x) f' s bs s' b' h' l' → Contexts w p b (suc x) d' t'
     → length h' ≡ length hs → length l' ≡ length l → length d' ≡ length d → length t' ≡ length t
@@ -97,9 +87,3 @@ turn-next {x = x} a y c i j k m = rw (add-one x) (record {
   latest-decls-length = k ∙ a.latest-decls-length;
   latest-labels-length = m ∙ a.latest-labels-length;
 })
-
-pub turn_last : {w p b s₀ b₀ h₀ l₀ d₀ t₀ s bs hs l d t : List ℕ} {x f : ℕ} → Turn w p b x f s₀ b₀ h₀ l₀ d₀ t₀ s bs hs l d t → row_count w ≤ x
-    → Walked w p b (row_count w) f s₀ b₀ s bs hs l
-turn_last {w} {x = x} a n =
-    let e : x ≡ row_count w = omega (arith, a.so_far.state.rows) in
-    rw e at a.so_far

@@ -9,20 +9,18 @@ ghost use Rattle.rules.specs.Rows.{row_count};
 ghost use Rattle.rules.specs.Class.{declaration, labeled, class};
 ghost use Rattle.rules.specs.Scope.{is_block};
 ghost use Rattle.rules.specs.Labels.{is_class, word};
+ghost use Rattle.rows.specs.Kinds.{number};
 ghost use Rattle.lists.specs.Listed.{InHand, ListAround};
-ghost use Rattle.tables.specs.Canon.{Tables};
+ghost use Rattle.tables.specs.Canon.{Tables as HasTables};
 ghost use Rattle.walk_state.specs.Walk.{current_label, latest_in, Walking, Walked};
 ghost use Rattle.label_walk.specs.Contexts.{latest_label, ListTable, Listing, Contexts, BlockLabelled};
 
+use body::Body;
 use context::Context;
 use lists::{Around, list_after, list_at};
-use rows::{RowNumber, kinds};
-
-fn wide(number: u16) -> usize
-    ensures { result ≡ number }
-{
-    number as usize
-}
+use rows::RowNumber;
+use rows::kinds::Kind;
+use tables::Tables;
 
 // The context of a list, which is given as 1 + its row.
 fn context_of(latest_decls: &[u16], latest_labels: &[u16], list: usize) -> Context
@@ -30,50 +28,41 @@ fn context_of(latest_decls: &[u16], latest_labels: &[u16], list: usize) -> Conte
     ensures { (result.latest ≡ get_or latest_decls.now (list - 1) 0) × (result.label ≡ get_or latest_labels.now (list - 1) 0) }
 {
     Context {
-        latest: wide(latest_decls[list - 1]),
-        label: wide(latest_labels[list - 1]),
+        latest: usize::from(latest_decls[list - 1]),
+        label: usize::from(latest_labels[list - 1]),
     }
 }
 
 // A VAR or :=, the latest declaration of its list from here on.
 fn decl_branches(
-    rows: &[u32],
-    pairs: &[u32],
-    bytes: &[u8],
+    body: Body<'_>,
     lists: &[u16],
     latest_decls: &mut [u16],
     latest_labels: &[u16],
     row: RowNumber,
 )
-    requires listing { Listing rows.now pairs.now bytes.now lists.now (suc row.0) }
-    requires contexts { Contexts rows.now pairs.now bytes.now row.0 latest_decls.old latest_labels.now }
-    requires row_bound { (row.0 < row_count rows.now) × (is_class rows.now declaration row.0 ≡ true) }
-    ensures { ListTable rows.now (latest_in rows.now pairs.now bytes.now) (suc row.0)
+    requires listing { Listing body.rows.now body.pairs.now body.bytes.now lists.now (suc row.0) }
+    requires contexts { Contexts body.rows.now body.pairs.now body.bytes.now row.0 latest_decls.old latest_labels.now }
+    requires row_bound { (row.0 < row_count body.rows.now) × (is_class body.rows.now declaration row.0 ≡ true) }
+    ensures { ListTable body.entry.rows.now (latest_in body.entry.rows.now body.entry.pairs.now body.entry.bytes.now) (suc row.0)
         latest_decls.new }
 {
     let r = row.0;
-    let list = wide(lists[r]);
+    let list = usize::from(lists[r]);
     let ctx = context::declared(context_of(latest_decls, latest_labels, list), r + 1);
     latest_decls[list - 1] = ctx.latest as u16;
 }
 
 // The label that a Block belongs to: the latest of its list, if the Block stands inside that
 // label's statement; else 0.
-fn current_label(
-    rows: &[u32],
-    pairs: &[u32],
-    bytes: &[u8],
-    lists: &[u16],
-    latest_labels: &[u16],
-    row: RowNumber,
-) -> u16
-    requires listing { Listing rows.now pairs.now bytes.now lists.now (suc row.0) }
-    requires list_table { ListTable rows.now (latest_label rows.now pairs.now bytes.now) row.0 latest_labels.now }
-    requires row_bound { (row.0 < row_count rows.now) × (is_block (class rows.now row.0) ≡ true) }
-    ensures { result ≡ word (current_label rows.now pairs.now bytes.now row.0) }
+fn current_label(body: Body<'_>, lists: &[u16], latest_labels: &[u16], row: RowNumber) -> u16
+    requires listing { Listing body.rows.now body.pairs.now body.bytes.now lists.now (suc row.0) }
+    requires list_table { ListTable body.rows.now (latest_label body.rows.now body.pairs.now body.bytes.now) row.0 latest_labels.now }
+    requires row_bound { (row.0 < row_count body.rows.now) × (is_block (class body.rows.now row.0) ≡ true) }
+    ensures { result ≡ word (current_label body.entry.rows.now body.entry.pairs.now body.entry.bytes.now row.0) }
 {
     let r = row.0;
-    let list = wide(lists[r]);
+    let list = usize::from(lists[r]);
     if list == 0 {
         return 0;
     }
@@ -81,8 +70,8 @@ fn current_label(
     if label == 0 {
         return 0;
     }
-    let t = wide(label) - 1;
-    if t + rows::size(rows, RowNumber(t)) <= r {
+    let t = usize::from(label) - 1;
+    if t + rows::size(body.rows, RowNumber(t)) <= r {
         return 0;
     }
     label
@@ -90,74 +79,66 @@ fn current_label(
 
 // A Block: its link is the label that it belongs to.
 fn set_block_label(
-    rows: &[u32],
-    pairs: &[u32],
-    bytes: &[u8],
+    body: Body<'_>,
     lists: &[u16],
     latest_labels: &[u16],
     goto_or_label: &mut [u16],
     row: RowNumber,
 )
-    requires listing { Listing rows.now pairs.now bytes.now lists.now (suc row.0) }
-    requires list_table { ListTable rows.now (latest_label rows.now pairs.now bytes.now) row.0 latest_labels.now }
-    requires row_bound { (row.0 < row_count rows.now) × (is_block (class rows.now row.0) ≡ true) × (row_count rows.now ≤ length goto_or_label.old) }
+    requires listing { Listing body.rows.now body.pairs.now body.bytes.now lists.now (suc row.0) }
+    requires list_table { ListTable body.rows.now (latest_label body.rows.now body.pairs.now body.bytes.now) row.0 latest_labels.now }
+    requires row_bound { (row.0 < row_count body.rows.now) × (is_block (class body.rows.now row.0) ≡ true) × (row_count body.rows.now ≤ length goto_or_label.old) }
     ensures { goto_or_label.new ≡ set goto_or_label.old row.0
-        (word (current_label rows.now pairs.now bytes.now row.0)) }
+        (word (current_label body.entry.rows.now body.entry.pairs.now body.entry.bytes.now row.0)) }
 {
     let r = row.0;
-    goto_or_label[r] = current_label(rows, pairs, bytes, lists, latest_labels, row);
+    goto_or_label[r] = current_label(body, lists, latest_labels, row);
 }
 
-// Whether a row of this kind and detail 1 is a declaration: Decl or Assign.
-fn may_declare(kind: u32) -> bool
-    ensures { result ≡ (eqb kind 1 || eqb kind 7) }
+// The detail of a Decl or an Assign that is a declaration: a VAR or :=.
+const DECLARES: u32 = 1;
+
+// Whether a row of this kind and of that detail is a declaration: Decl or Assign.
+fn may_declare(kind: Kind) -> bool
+    ensures { result ≡ (eqb (number kind) 1 || eqb (number kind) 7) }
 {
-    if kind == kinds::DECL {
-        return true;
-    }
-    kind == kinds::ASSIGN
+    matches!(kind, Kind::Decl | Kind::Assign)
 }
 
 // A row that is no label and no branch: a declaration, a Block, or one that changes nothing. Few
-// rows have detail 1, so that is asked first.
+// rows have the detail of a declaration, so that is asked first.
 fn plain_branches(
-    rows: &[u32],
-    pairs: &[u32],
-    bytes: &[u8],
+    body: Body<'_>,
     lists: &[u16],
     goto_or_label: &mut [u16],
     latest_decls: &mut [u16],
     latest_labels: &[u16],
     row: RowNumber,
 )
-    requires listing { Listing rows.now pairs.now bytes.now lists.now (suc row.0) }
-    requires contexts { Contexts rows.now pairs.now bytes.now row.0 latest_decls.old latest_labels.now }
-    requires row_bound { (row.0 < row_count rows.now) × (row_count rows.now ≤ length goto_or_label.old) }
-    ensures blocks { BlockLabelled rows.now pairs.now bytes.now row.0 goto_or_label.old
+    requires listing { Listing body.rows.now body.pairs.now body.bytes.now lists.now (suc row.0) }
+    requires contexts { Contexts body.rows.now body.pairs.now body.bytes.now row.0 latest_decls.old latest_labels.now }
+    requires row_bound { (row.0 < row_count body.rows.now) × (row_count body.rows.now ≤ length goto_or_label.old) }
+    ensures linked { BlockLabelled body.entry.rows.now body.entry.pairs.now body.entry.bytes.now row.0 goto_or_label.old
         goto_or_label.new }
-    ensures decls { ListTable rows.now (latest_in rows.now pairs.now bytes.now) (suc row.0)
+    ensures decls { ListTable body.entry.rows.now (latest_in body.entry.rows.now body.entry.pairs.now body.entry.bytes.now) (suc row.0)
         latest_decls.new }
 {
-    let kind = rows::kind(rows, row);
-    if rows::detail(rows, row) == 1 {
+    let kind = rows::kind_at(body.rows, row);
+    if rows::detail(body.rows, row) == DECLARES {
         if may_declare(kind) {
-            decl_branches(rows, pairs, bytes, lists, latest_decls, latest_labels, row);
+            decl_branches(body, lists, latest_decls, latest_labels, row);
         }
         return;
     }
-    if kind == kinds::BLOCK {
-        set_block_label(rows, pairs, bytes, lists, latest_labels, goto_or_label, row);
+    if kind == Kind::Block {
+        set_block_label(body, lists, latest_labels, goto_or_label, row);
     }
 }
 
 // A Labeled row, the latest label of its list unless it is `_`. It answers the sheet's row count.
 fn labeled_branches(
-    rows: &[u32],
-    pairs: &[u32],
-    bytes: &[u8],
-    canonical: &[u32],
-    label_rows: &[u16],
-    lists: &[u16],
+    body: Body<'_>,
+    tables: Tables<'_>,
     sheet: &mut [u32],
     bindings: &mut [u32],
     heads: &mut [u16],
@@ -167,29 +148,25 @@ fn labeled_branches(
     row: RowNumber,
     faults: usize,
 ) -> usize
-    requires tables { Tables rows.now pairs.now bytes.now canonical.now label_rows.now lists.now (suc row.0) }
-    requires walking { Walking rows.now pairs.now bytes.now row.0 faults sheet.old bindings.old heads.old goto_or_label.now }
-    requires contexts { Contexts rows.now pairs.now bytes.now row.0 latest_decls.now latest_labels.old }
-    requires row_bound { (row.0 < row_count rows.now) × (class rows.now row.0 ≡ labeled) }
-    ensures walked { Walked rows.now pairs.now bytes.now (suc row.0) result sheet.old bindings.old
+    requires tables { HasTables body.rows.now body.pairs.now body.bytes.now tables.canonical.now tables.label_rows.now tables.lists.now (suc row.0) }
+    requires walking { Walking body.rows.now body.pairs.now body.bytes.now row.0 faults sheet.old bindings.old heads.old goto_or_label.now }
+    requires contexts { Contexts body.rows.now body.pairs.now body.bytes.now row.0 latest_decls.now latest_labels.old }
+    requires row_bound { (row.0 < row_count body.rows.now) × (class body.rows.now row.0 ≡ labeled) }
+    ensures walked { Walked body.entry.rows.now body.entry.pairs.now body.entry.bytes.now (suc row.0) result sheet.old bindings.old
         sheet.new bindings.new heads.new goto_or_label.now }
-    ensures labels { ListTable rows.now (latest_label rows.now pairs.now bytes.now) (suc row.0)
+    ensures labels { ListTable body.entry.rows.now (latest_label body.entry.rows.now body.entry.pairs.now body.entry.bytes.now) (suc row.0)
         latest_labels.new }
 {
-    if tables::canon_of(rows, canonical, row) == 0 {
+    if tables::canon_of(body.rows, tables.canonical, row) == 0 {
         return faults;
     }
     let r = row.0;
-    let list = wide(lists[r]);
+    let list = usize::from(tables.lists[r]);
     let ctx = context::labelled(context_of(latest_decls, latest_labels, list), r + 1);
     latest_labels[list - 1] = ctx.label as u16;
     pending::label_branches(
-        rows,
-        pairs,
-        bytes,
-        canonical,
-        label_rows,
-        lists,
+        body,
+        tables,
         sheet,
         bindings,
         heads,
@@ -202,21 +179,16 @@ fn labeled_branches(
 
 // What the walk hands on from row to row beside its tables: the sheet's row count, and the list in
 // hand.
-#[derive(Clone, Copy)]
+#[derive(Clone, Copy, Debug, PartialEq, Eq)]
 struct Step {
     faults: usize,
-    list: usize,
-    end: usize,
+    around: Around,
 }
 
 // One row, with the list around it.
 fn stmt_branches(
-    rows: &[u32],
-    pairs: &[u32],
-    bytes: &[u8],
-    canonical: &[u32],
-    label_rows: &[u16],
-    lists: &[u16],
+    body: Body<'_>,
+    tables: Tables<'_>,
     sheet: &mut [u32],
     bindings: &mut [u32],
     heads: &mut [u16],
@@ -227,25 +199,21 @@ fn stmt_branches(
     here: Around,
     faults: usize,
 ) -> Step
-    requires tables { Tables rows.now pairs.now bytes.now canonical.now label_rows.now lists.now (suc row.0) }
-    requires walking { Walking rows.now pairs.now bytes.now row.0 faults sheet.old bindings.old heads.old goto_or_label.old }
-    requires contexts_2 { Contexts rows.now pairs.now bytes.now row.0 latest_decls.old latest_labels.old }
-    requires row_bound { (row.0 < row_count rows.now) × ListAround rows.now here.list here.end row.0 }
-    ensures walked { Walked rows.now pairs.now bytes.now (suc row.0) result.faults sheet.old
+    requires tables { HasTables body.rows.now body.pairs.now body.bytes.now tables.canonical.now tables.label_rows.now tables.lists.now (suc row.0) }
+    requires walking { Walking body.rows.now body.pairs.now body.bytes.now row.0 faults sheet.old bindings.old heads.old goto_or_label.old }
+    requires contexts_before { Contexts body.rows.now body.pairs.now body.bytes.now row.0 latest_decls.old latest_labels.old }
+    requires row_bound { (row.0 < row_count body.rows.now) × ListAround body.rows.now here.list here.end row.0 }
+    ensures walked { Walked body.entry.rows.now body.entry.pairs.now body.entry.bytes.now (suc row.0) result.faults sheet.old
         bindings.old sheet.new bindings.new heads.new goto_or_label.new }
-    ensures contexts { Contexts rows.now pairs.now bytes.now (suc row.0) latest_decls.new
+    ensures contexts { Contexts body.entry.rows.now body.entry.pairs.now body.entry.bytes.now (suc row.0) latest_decls.new
         latest_labels.new }
-    ensures around { InHand rows.now result.list result.end (row.0 + 1) }
+    ensures around { InHand body.entry.rows.now result.around.list result.around.end (row.0 + 1) }
 {
-    match rows::kind(rows, row) {
-        kinds::LABELED => {
+    match rows::kind_at(body.rows, row) {
+        Kind::Labeled => {
             let more = labeled_branches(
-                rows,
-                pairs,
-                bytes,
-                canonical,
-                label_rows,
-                lists,
+                body,
+                tables,
                 sheet,
                 bindings,
                 heads,
@@ -257,18 +225,13 @@ fn stmt_branches(
             );
             Step {
                 faults: more,
-                list: here.list,
-                end: here.end,
+                around: here,
             }
         }
-        kinds::BRANCH => {
+        Kind::Branch => {
             let more = jumps::jump_branches(
-                rows,
-                pairs,
-                bytes,
-                canonical,
-                label_rows,
-                lists,
+                body,
+                tables,
                 sheet,
                 bindings,
                 heads,
@@ -278,26 +241,21 @@ fn stmt_branches(
             );
             Step {
                 faults: more,
-                list: here.list,
-                end: here.end,
+                around: here,
             }
         }
         _ => {
             plain_branches(
-                rows,
-                pairs,
-                bytes,
-                lists,
+                body,
+                tables.lists,
                 goto_or_label,
                 latest_decls,
                 latest_labels,
                 row,
             );
-            let after = list_after(rows, here, row.0);
             Step {
                 faults,
-                list: after.list,
-                end: after.end,
+                around: list_after(body.rows, here, row.0),
             }
         }
     }
@@ -305,9 +263,7 @@ fn stmt_branches(
 
 // All rows in order, each with its list written before it. It answers the sheet's row count.
 pub fn rows_branches(
-    rows: &[u32],
-    pairs: &[u32],
-    bytes: &[u8],
+    body: Body<'_>,
     canonical: &[u32],
     label_rows: &[u16],
     lists: &mut [u16],
@@ -318,29 +274,29 @@ pub fn rows_branches(
     latest_decls: &mut [u16],
     latest_labels: &mut [u16],
 ) -> usize
-    requires tables { Tables rows.now pairs.now bytes.now canonical.now label_rows.now lists.old 0 }
-    requires walking { Walking rows.now pairs.now bytes.now 0 0 sheet.old bindings.old heads.old goto_or_label.old }
-    requires contexts { Contexts rows.now pairs.now bytes.now 0 latest_decls.old latest_labels.old }
-    ensures { Walked rows.now pairs.now bytes.now (row_count rows.now) result sheet.old
+    requires tables { HasTables body.rows.now body.pairs.now body.bytes.now canonical.now label_rows.now lists.old 0 }
+    requires walking { Walking body.rows.now body.pairs.now body.bytes.now 0 0 sheet.old bindings.old heads.old goto_or_label.old }
+    requires contexts { Contexts body.rows.now body.pairs.now body.bytes.now 0 latest_decls.old latest_labels.old }
+    ensures { Walked body.entry.rows.now body.entry.pairs.now body.entry.bytes.now (row_count body.entry.rows.now) result sheet.old
         bindings.old sheet.new bindings.new heads.new goto_or_label.new }
 {
-    let count = rows.len() / 5;
+    let count = body.rows.len() / 5;
     let mut around = Around {
         list: 0,
         end: count,
     };
     let mut faults = 0;
-    let mut r = 0;
-    while r < count {
-        let here = list_at(rows, lists, around, r);
+    for r in 0..count {
+        let here = list_at(body.rows, lists, around, r);
         lists[r] = here.list as u16;
-        let step = stmt_branches(
-            rows,
-            pairs,
-            bytes,
+        let tables = Tables {
             canonical,
             label_rows,
             lists,
+        };
+        let step = stmt_branches(
+            body,
+            tables,
             sheet,
             bindings,
             heads,
@@ -352,11 +308,7 @@ pub fn rows_branches(
             faults,
         );
         faults = step.faults;
-        around = Around {
-            list: step.list,
-            end: step.end,
-        };
-        r += 1;
+        around = step.around;
     }
     faults
 }

@@ -1,60 +1,63 @@
 // If chains 45 deep, `if c { return } else if c { return } ..`: the placing and the verdict.
-use placing::Placing;
-use returns::Verdict;
-use rows::kinds;
+use rows::kinds::Kind;
 use std::io;
-use std::num::wrapping_sub_u32;
+use testing::fill;
 use testing::fill::{Row, Run};
-use testing::{fill, show};
 
 fn placed(rt: &impl Print, rows: &[u32]) -> io::Result<()> {
-    match placing::placing_of(rows, &[0u32; 0], b"") {
-        Placing::Refused(_) => show::text(rt, b"refused, "),
-        Placing::Bad(_) => show::text(rt, b"placed no, "),
-        Placing::Well => show::text(rt, b"placed yes, "),
+    match placing::placing_of(rows, &[], b"") {
+        Ok(None) => print!(rt; "placed yes, "),
+        Ok(Some(_)) => print!(rt; "placed no, "),
+        Err(_) => print!(rt; "refused, "),
     }
 }
 
 fn verdict(rt: &impl Print, rows: &[u32]) -> io::Result<()> {
-    match returns::verdict_of(rows, &[0u32; 0], b"") {
-        Verdict::Refused(_) => show::line(rt, b"refused"),
-        Verdict::Yes => show::line(rt, b"verdict yes"),
-        Verdict::No => show::line(rt, b"verdict no"),
+    match returns::verdict_of(rows, &[], b"") {
+        Ok(true) => println!(rt; "verdict yes"),
+        Ok(false) => println!(rt; "verdict no"),
+        Err(_) => println!(rt; "refused"),
     }
 }
 
 // The placing and the verdict of the first rows.
-fn first(rt: &impl Print, words: &[u32], count: u32) -> io::Result<()> {
-    let end = count as usize * 5;
-    if end <= words.len() {
-        placed(rt, &words[0..end])?;
-        verdict(rt, &words[0..end])?;
-    }
-    Ok(())
+fn first(rt: &impl Print, words: &[u32], count: usize) -> io::Result<()> {
+    let Some(rows) = words.get(..count.wrapping_mul(5)) else {
+        return Ok(());
+    };
+    placed(rt, rows)?;
+    verdict(rt, rows)
 }
 
 // A Block of `count` rows: 45 Ifs of three rows each, which go to its end, all with an else.
 fn chain(words: &mut [u32], count: u32) {
-    fill::one_row(words, 0, Row(kinds::BLOCK, 0, 0, count));
+    fill::one_row(words, 0, Row::new(Kind::Block, 0, 0, count));
+    let first = Row::new(Kind::If, 1, 0, count.wrapping_sub(1));
+    fill::rows(words, Run::new(1, 3, 45), first, 0, 3);
     fill::rows(
         words,
-        Run(1, 3, 45),
-        Row(kinds::IF, 1, 0, wrapping_sub_u32(count, 1)),
+        Run::new(2, 3, 45),
+        Row::new(Kind::Block, 0, 0, 2),
         0,
-        3,
+        0,
     );
-    fill::rows(words, Run(2, 3, 45), Row(kinds::BLOCK, 0, 0, 2), 0, 0);
-    fill::rows(words, Run(3, 3, 45), Row(kinds::RETURN, 0, 0, 1), 0, 0);
+    fill::rows(
+        words,
+        Run::new(3, 3, 45),
+        Row::new(Kind::Return, 0, 0, 1),
+        0,
+        0,
+    );
 }
 
 pub fn bodies(rt: &impl Print, words: &mut [u32]) -> io::Result<()> {
-    show::line(rt, b"45 Ifs in else, the last with an else")?;
+    println!(rt; "45 Ifs in else, the last with an else")?;
     chain(words, 138);
-    fill::one_row(words, 136, Row(kinds::BLOCK, 0, 0, 2));
-    fill::one_row(words, 137, Row(kinds::RETURN, 0, 0, 1));
+    fill::one_row(words, 136, Row::new(Kind::Block, 0, 0, 2));
+    fill::one_row(words, 137, Row::new(Kind::Return, 0, 0, 1));
     first(rt, words, 138)?;
-    show::line(rt, b"45 Ifs in else, the last without")?;
+    println!(rt; "45 Ifs in else, the last without")?;
     chain(words, 136);
-    fill::one_row(words, 133, Row(kinds::IF, 0, 0, 3));
+    fill::one_row(words, 133, Row::new(Kind::If, 0, 0, 3));
     first(rt, words, 136)
 }

@@ -1,40 +1,20 @@
 // The list of each row: the innermost Block, Case or Comm around it, in one pass.
 #![tactic(auto)]
 
-ghost use Rattle.std.specs.Prelude.{◌≡◌, true, ℕ, ◌+◌, ◌≤◌, ◌<◌, length};
+ghost use Rattle.std.specs.Prelude.{◌≡◌, ◌+◌, ◌≤◌, ◌<◌, length};
 ghost use Rattle.rules.specs.Rows.{row_count};
-ghost use Rattle.rules.specs.Class.{detail_allowed, class_of};
 ghost use Rattle.rules.specs.Scope.{holds_items, innermost};
 ghost use Rattle.rules.specs.Labels.{word};
 ghost use Rattle.rules.specs.Body.{Sized, Detailed};
 ghost use Rattle.lists.specs.Listed.{Open, EndsAt, InHand, ListAround, ListedBelow, Listed};
 
-use rows::{RowNumber, kinds};
+use rows::RowNumber;
 
 // The list around a row, 1 + its own row or 0 for none, and where it ends.
-#[derive(Clone, Copy)]
+#[derive(Clone, Copy, Debug, PartialEq, Eq)]
 pub struct Around {
     pub list: usize,
     pub end: usize,
-}
-
-fn wide(number: u16) -> usize
-    ensures { result ≡ number }
-{
-    number as usize
-}
-
-// Whether a row of this kind holds items: Block, Case or Comm.
-fn holds_items(kind: u32) -> bool
-    ensures { (d : ℕ) → detail_allowed kind d ≡ true → result ≡ holds_items (class_of kind d) }
-{
-    if kind == kinds::BLOCK {
-        return true;
-    }
-    if kind == kinds::CASE {
-        return true;
-    }
-    kind == kinds::COMM
 }
 
 // The first of `list` (1 + its row, or 0 for none) and the rows around it that hold items that
@@ -50,7 +30,7 @@ fn still_open(rows: &[u32], lists: &[u16], list: usize, r: usize) -> usize
         if r < row + rows::size(rows, RowNumber(row)) {
             return open;
         }
-        open = wide(lists[row]);
+        open = usize::from(lists[row]);
     }
     0
 }
@@ -88,7 +68,7 @@ pub fn list_after(rows: &[u32], here: Around, r: usize) -> Around
     ensures { InHand rows.now result.list result.end (r + 1) }
 {
     let row = RowNumber(r);
-    if !holds_items(rows::kind(rows, row)) {
+    if !rows::kind_at(rows, row).holds_items() {
         return here;
     }
     let end = r + rows::size(rows, row);
@@ -107,11 +87,9 @@ pub fn lists_of(rows: &[u32], lists: &mut [u16])
         list: 0,
         end: count,
     };
-    let mut r = 0;
-    while r < count {
+    for r in 0..count {
         around = list_at(rows, lists, around, r);
         lists[r] = around.list as u16;
         around = list_after(rows, around, r);
-        r += 1;
     }
 }

@@ -6,47 +6,38 @@ use std::fs::File;
 use std::io;
 use std::rt::Files;
 
-fn case(rt: &(impl Files + Print), name: &str) -> io::Result<()> {
-    println!(rt; "{name}")?;
-    match File::open(rt, name) {
-        Ok(mut file) => filter::marks(&mut file, &mut io::writer(rt)),
-        Err(_) => println!(rt; "missing"),
-    }
-}
-
 // The longest file that isn't refused for its counts, and one byte more or less.
-fn longest(rt: &(impl Files + Print)) -> io::Result<()> {
-    case(rt, "longest")?;
-    case(rt, "longest_and_one")?;
-    case(rt, "longest_less_one")
-}
+const LONGEST: [&str; 3] = ["longest", "longest_and_one", "longest_less_one"];
 
 // 2,001 rows in a file as long as its header says, and one byte more or less.
-fn too_many_rows(rt: &(impl Files + Print)) -> io::Result<()> {
-    case(rt, "rows_2001")?;
-    case(rt, "rows_2001_and_one")?;
-    case(rt, "rows_2001_less_one")
-}
+const TOO_MANY_ROWS: [&str; 3] = ["rows_2001", "rows_2001_and_one", "rows_2001_less_one"];
 
 // Files of several pieces: 10,000 rows, 8,000 bytes and more, each as long as its header says, and
 // the first with one byte more or less.
-fn pieces(rt: &(impl Files + Print)) -> io::Result<()> {
-    case(rt, "rows_10000")?;
-    case(rt, "rows_10000_and_one")?;
-    case(rt, "rows_10000_less_one")?;
-    case(rt, "bytes_200000")
-}
+const PIECES: [&str; 4] = [
+    "rows_10000",
+    "rows_10000_and_one",
+    "rows_10000_less_one",
+    "bytes_200000",
+];
 
 // No header: nothing, 11 bytes; and a header alone, which says no rows.
-fn headers(rt: &(impl Files + Print)) -> io::Result<()> {
-    case(rt, "nothing")?;
-    case(rt, "bytes_11")?;
-    case(rt, "no_rows")
+const HEADERS: [&str; 3] = ["nothing", "bytes_11", "no_rows"];
+
+fn cases(rt: &(impl Files + Print), names: &[&str]) -> io::Result<()> {
+    for name in names {
+        println!(rt; "{name}")?;
+        match File::open(rt, name) {
+            Ok(mut file) => filter::marks(&mut file, &mut io::writer(rt))?,
+            Err(_) => println!(rt; "missing")?,
+        }
+    }
+    Ok(())
 }
 
 fn main(rt: HostRuntime) -> io::Result<()> {
-    longest(&rt)?;
-    too_many_rows(&rt)?;
-    pieces(&rt)?;
-    headers(&rt)
+    cases(&rt, &LONGEST)?;
+    cases(&rt, &TOO_MANY_ROWS)?;
+    cases(&rt, &PIECES)?;
+    cases(&rt, &HEADERS)
 }

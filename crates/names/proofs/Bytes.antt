@@ -1,71 +1,19 @@
--- One turn of the comparisons of bytes: what the bytes at i decide of the lists from i on.
+-- The library's equality and order of lists of bytes, element by element, are the rules' same bytes and order of bytes.
 -- Assumes nothing.
-use mathlib.Core.Path.{◌≡◌, refl, ap}
-use mathlib.Core.Bool.{true, false}
-use mathlib.Core.List.{List, [], ◌∷◌}
-use Prim.Native.Nat.{ℕ, suc, ◌+◌, ◌<◌, ◌≤◌}
-use native.Mathlib.Numerals.{add-one}
-use native.Mathlib.Omega.{arith}
-use native.Mathlib.Decide.{dec_lt}
-use lib.Dec.{ltb, eqb}
-use lib.ListN.{length, drop, get_or, drop_of_length-le}
-use lib.Seq.{drop-cons}
-use borrow.Author.Tests.{lt-ltb, le-ltb, eq-eqb, ne_eqb}
+use Rattle.std.proofs.Common.{◌≡◌, ℕ, Bool, List, [], ◌∷◌, refl, arith, nat_eq, Some}
+use Rattle.std.proofs.lemmas.Bool.Decides.{nat_tests}
+use Rattle.std.specs.Cmp.Lexicographic.{pointwise, slice_partial_cmp}
+use Rattle.std.specs.Ordering.{nat_cmp, is_lt, is_some_and}
+use Rattle.std.proofs.lemmas.Cmp.{same_from_slice_cmp_tested}
 use Rattle.rules.specs.Names.{same_bytes, bytes_before}
-use Rattle.rules.proofs.Test.{case-of}
 
--- ---- same bytes
-pub other_length : (a b : List ℕ) → (length a ≡ length b → ⊥) → same_bytes a b ≡ false
+pub pointwise-same : (a b : List ℕ) → pointwise nat_eq a b ≡ same_bytes a b
 unfolding same_bytes
-other_length [] [] n = absurd (n refl)
-other_length [] (y ∷ ys) n = refl
-other_length (x ∷ xs) [] n = refl
-other_length (x ∷ xs) (y ∷ ys) n =
-    case-of (eqb x y) (λ t. rw (t, same_bytes) (other_length xs ys (λ e. n (ap suc e)))) (λ t. rw (t, same_bytes))
+pointwise-same [] [] = refl
+pointwise-same [] (y ∷ ys) = refl
+pointwise-same (x ∷ xs) [] = refl
+pointwise-same (x ∷ xs) (y ∷ ys) = rw (pointwise-same xs ys)
 
-module _ (a b : List ℕ) (i : ℕ) (l : length a ≡ length b) where
-  pub same_end : length a ≤ i → same_bytes (drop i a) (drop i b) ≡ true
-  unfolding same_bytes
-  same_end h = rw (drop_of_length-le a {i = i} h, drop_of_length-le b {i = i} (omega arith))
-
-  pub same_next : i < length a → get_or a i 0 ≡ get_or b i 0 → same_bytes (drop i a) (drop i b) ≡ same_bytes (drop (i + 1) a) (drop (i + 1) b)
-  unfolding same_bytes
-  same_next h e = rw (add-one, drop-cons a i 0, drop-cons b i 0 (omega arith), eq-eqb (get_or a i 0) (get_or b i 0) e)
-
-  pub other_byte : i < length a → (get_or a i 0 ≡ get_or b i 0 → ⊥) → same_bytes (drop i a) (drop i b) ≡ false
-  unfolding same_bytes
-  other_byte h n = rw (drop-cons a i 0, drop-cons b i 0 (omega arith), ne_eqb (get_or a i 0) (get_or b i 0) n)
-
--- ---- the order of bytes
-nothing-before-none : (a : List ℕ) → bytes_before a [] ≡ false
+pub less-before : (a b : List ℕ) (r : Bool) → r ≡ is_some_and is_lt (slice_partial_cmp (λ x y. Some (nat_cmp x y)) a b) → r ≡ bytes_before a b
 unfolding bytes_before
-nothing-before-none [] = refl
-nothing-before-none (x ∷ xs) = refl
-
-module _ (a b : List ℕ) (i : ℕ) where
-  -- where the shorter one ends, it comes first
-  pub before-lengths : (length a < length b → i ≡ length a) → (length b ≤ length a → i ≡ length b)
-      → ltb (length a) (length b) ≡ bytes_before (drop i a) (drop i b)
-  unfolding bytes_before
-  before-lengths f g = elim (dec_lt (length a) (length b)) [
-    | yes h ↦
-        let m : length a ≤ i = omega (arith, f h) in
-        let l : i < length b = omega (arith, f h) in
-        rw (lt-ltb (length a) (length b) h, drop_of_length-le a {i = i} m, drop-cons b i 0 l)
-    | no n ↦
-        let l : length b ≤ i = omega (arith, g (omega arith)) in
-        rw (le-ltb (length a) (length b) (omega arith), drop_of_length-le b {i = i} l, nothing-before-none (drop i a))
-  ]
-
-  module _ (h : i < length a) (l : i < length b) where
-    -- the first bytes that differ decide
-    pub first-other : (get_or a i 0 ≡ get_or b i 0 → ⊥) → ltb (get_or a i 0) (get_or b i 0) ≡ bytes_before (drop i a) (drop i b)
-    unfolding bytes_before
-    first-other n = case-of (ltb (get_or a i 0) (get_or b i 0))
-        (λ t. rw (drop-cons a i 0 h, drop-cons b i 0 l, t))
-        (λ t. rw (drop-cons a i 0 h, drop-cons b i 0 l, t, ne_eqb (get_or a i 0) (get_or b i 0) n))
-
-    pub before-next : get_or a i 0 ≡ get_or b i 0 → bytes_before (drop i a) (drop i b) ≡ bytes_before (drop (i + 1) a) (drop (i + 1) b)
-    unfolding bytes_before
-    before-next e =
-        rw (add-one, drop-cons a i 0 h, drop-cons b i 0 l, le-ltb (get_or a i 0) (get_or b i 0) (omega arith), eq-eqb (get_or a i 0) (get_or b i 0) e)
+less-before = same_from_slice_cmp_tested nat_cmp is_lt bytes_before refl (λ _ _. refl) (λ _ _. refl) (λ x y xs ys o h. grind (arith, nat_tests))

@@ -1,10 +1,8 @@
 -- The answer of a search as document 01's index, or none.
 -- Assumes nothing.
-use Rattle.std.proofs.Math.Option.{Option, none, some}
-use Rattle.std.specs.Prelude.{ℕ}
-use Rattle.names.specs.declared.Found.{Found}
-use Rattle.names.specs.declared.Found.TheVariants.{At, Nowhere}
+use Rattle.std.specs.Prelude.{ℕ, Option, Some, None}
+use Rattle.std.proofs.Math.Option as found
 
-abbrev pub place : Found → Option ℕ
-place (At i) = some i
-place Nowhere = none
+abbrev pub place : Option ℕ → found.Option ℕ
+place (Some i) = found.some i
+place None = found.none

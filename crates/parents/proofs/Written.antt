@@ -84,12 +84,6 @@ module _ {w p b : List ℕ} (body : Body w p b) where
     })
 
   -- ---- all rows
-  pub parents-start : (t : List ℕ) → row_count w ≤ length t → ParentsTo w (set t 0 0) 0
-  parents-start t m = record {
-    root = get_or-set_same t 0 0 0 (omega (arith, body.some_rows));
-    below = λ j s g d. absurd (omega arith);
-  }
-
   pub parents-end : (t : List ℕ) (k : ℕ) → ParentsTo w t k → row_count w ≤ k → Parents w t
   parents-end t k a m zero h = a.root ∙ sym (ap word (no-parent w))
   parents-end t k a m (suc q) h =

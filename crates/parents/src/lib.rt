@@ -27,11 +27,8 @@ pub fn parents_of(rows: &[u32], parents: &mut [u16])
     requires { Formed rows.now × (row_count rows.now ≤ length parents.old) }
     ensures { Parents rows.now parents.new }
 {
-    let count = rows.len() / 5;
     parents[0] = 0;
-    let mut r = 0;
-    while r < count {
+    for r in 0..rows.len() / 5 {
         write_children(rows, r, parents);
-        r += 1;
     }
 }

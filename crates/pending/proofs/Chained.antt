@@ -74,14 +74,8 @@ pub record Counted (links : List ℕ) (head list latest over g : ℕ) (all : Lis
   pub count : over + count_over latest rest ≡ count_over latest all
 
 module _ {links : List ℕ} {head list latest : ℕ} {all : List ℕ} {last : ℕ} where
-  pub count-begins : Chain links list head all last → Counted links head list latest 0 head all last
-  count-begins c = record { rest = all; chain = c; low = omega arith; count = omega arith }
-
   pub count-few : {over g : ℕ} → Chain links list head all last → Counted links head list latest over g all last → over ≤ head
   count-few c k = omega (arith, count_over-most latest c, k.count)
-
-  pub count-lower : {over g : ℕ} → Counted links head list latest over g all last → list < g → get_or links (g - 1) 0 < g
-  count-lower k l = omega (arith, (step k.chain l).lower)
 
   pub count_yes : {over g next : ℕ} → Counted links head list latest over g all last → list < g → g < latest → next ≡ get_or links (g - 1) 0
       → Counted links head list latest (over + 1) next all last
@@ -145,19 +139,6 @@ pub record Resolves (w sheet₀ bindings₀ links sheet bindings : List ℕ) (he
       → sets sheet (start * 4) (fault_words (over_faults w latest rest)) ≡ sets sheet₀ (start * 4) (fault_words (over_faults w latest all))
 
 module _ {w sheet₀ bindings₀ links : List ℕ} {head list latest end v : ℕ} {all : List ℕ} {last : ℕ} where
-  pub resolve-begins : Chain links list head all last → Resolves w sheet₀ bindings₀ links sheet₀ bindings₀ head list latest end v end head all last
-  resolve-begins c = record {
-    rest = all;
-    chain = c;
-    low = omega arith;
-    under = omega arith;
-    count = refl;
-    same-sheet = refl;
-    same-bindings = refl;
-    bound = refl;
-    reported = λ start e. refl;
-  }
-
   module _ {sheet bindings : List ℕ} {at g : ℕ} (k : Resolves w sheet₀ bindings₀ links sheet bindings head list latest end v at g all last) where
     -- a row to report is left to report
     pub resolve-some : count_over latest all ≤ end → list < g → g < latest → 0 < at

@@ -62,24 +62,28 @@ module _ (s : List ℕ) (k : ℕ) (fs : List Fault) (fits : (k + length fs) * 4 
 
 -- what the row's work may assume
 abbrev pub AtLabel : (w p b cs ds ls s t heads goto-or-label : List ℕ) (x faults latest : ℕ) → Type 0
-AtLabel w p b cs ds ls s t heads goto-or-label x faults latest = Tables w p b cs ds ls (suc x)
-    × (Walking w p b x faults s t heads goto-or-label × (((x < row_count w) × (is_label w p b x ≡ true)) × (latest ≡ word (latest_declaration w p b x))))
+AtLabel w p b cs ds ls s t heads goto-or-label x faults latest = record {
+  tables : Tables w p b cs ds ls (suc x);
+  walking : Walking w p b x faults s t heads goto-or-label;
+  row_bound : (x < row_count w) × (is_label w p b x ≡ true);
+  latest_value : latest ≡ word (latest_declaration w p b x);
+}
 
 module _ {w p b cs ds ls s t heads goto-or-label : List ℕ} {x faults latest : ℕ} (q : AtLabel w p b cs ds ls s t heads goto-or-label x faults latest) where
   abbrev pub tables : Tables w p b cs ds ls (suc x)
-  tables = q.0
+  tables = q.tables
 
   abbrev pub walking : Walking w p b x faults s t heads goto-or-label
-  walking = q.1.0
+  walking = q.walking
 
   abbrev pub row : x < row_count w
-  row = q.1.1.0.0
+  row = q.row_bound.0
 
   abbrev pub label : is_label w p b x ≡ true
-  label = q.1.1.0.1
+  label = q.row_bound.1
 
   abbrev pub latest-is : latest ≡ word (latest_declaration w p b x)
-  latest-is = q.1.1.1
+  latest-is = q.latest_value
 
   -- ---- the label's own work
   own : (d : ℕ) × (declared w p b x ≡ some d) × (d ≤ x)
@@ -122,15 +126,11 @@ module _ {w p b cs ds ls s t heads goto-or-label : List ℕ} {x faults latest : 
     repeats : (d ≡ suc x → ⊥) → length fs ≡ 2
     repeats n = ap length (repeated-is w p b x own.0 own.1 (λ e. n (declared-suc ∙ ap suc e)))
 
-    pub declare-asks : ((x < row_count w) × (x < length t))
-        × (((0 < d) × (d ≤ row_count w) × (row_count w ≤ 2000)) × ((d ≡ suc x → ⊥) → faults * 4 + 8 ≤ length s))
-    declare-asks = (
-      (row, omega (arith, walking.bindings_room)),
-      (
-        (omega (arith, declared-suc), omega (arith, declared-suc, own.2), tables.body.most_rows),
-        λ n. omega (arith, repeats n, fits),
-      ),
-    )
+    pub declared-row : (0 < d) × (d ≤ row_count w) × (row_count w ≤ 2000)
+    declared-row = (omega (arith, declared-suc), omega (arith, declared-suc, own.2), tables.body.most_rows)
+
+    pub repeats-fit : (d ≡ suc x → ⊥) → faults * 4 + 8 ≤ length s
+    repeats-fit n = omega (arith, repeats n, fits)
 
     pub declare-leaves : {s' t' : List ℕ} {more : ℕ} → Declaring w s t s' t' d x faults more → Own s' t' more
     declare-leaves {s'} {t'} {more} y = elim (ℕ_discrete d (suc x)) [

@@ -5,17 +5,13 @@
 ghost use Rattle.std.specs.Prelude.{◌≡◌, true, List, ℕ, suc, ◌+◌, ◌*◌, ◌≤◌, ◌<◌, length};
 ghost use Rattle.rules.specs.Rows.{row_count};
 ghost use Rattle.rules.specs.Labels.{is_label, latest_declaration, word};
-ghost use Rattle.tables.specs.Canon.{Tables};
+ghost use Rattle.tables.specs.Canon.{Tables as HasTables};
 ghost use Rattle.pending.specs.Chain.{Chain, count_over, Counting, Resolving, Resolved, Declaring};
 ghost use Rattle.walk_state.specs.Walk.{Walking, Walked};
 
+use body::Body;
 use rows::RowNumber;
-
-fn wide(number: u16) -> usize
-    ensures { result ≡ number }
-{
-    number as usize
-}
+use tables::Tables;
 
 // How many of the pending gotos from `head` on that stand after row `list` jump over the latest
 // declaration.
@@ -29,7 +25,7 @@ fn count_jumps_over(goto_or_label: &[u16], head: usize, list: usize, latest: usi
         if g < latest {
             over += 1;
         }
-        g = wide(goto_or_label[g - 1]);
+        g = usize::from(goto_or_label[g - 1]);
     }
     over
 }
@@ -61,7 +57,7 @@ fn resolve(
             let other = rows::position(rows, RowNumber(latest - 1));
             sheet::put(rows, sheet, at, 3, RowNumber(g - 1), other);
         }
-        g = wide(goto_or_label[g - 1]);
+        g = usize::from(goto_or_label[g - 1]);
     }
     g
 }
@@ -94,12 +90,8 @@ fn declare(
 // A Labeled row, not `_`, with the latest declaration before it in its list. It answers the sheet's
 // row count.
 pub fn label_branches(
-    rows: &[u32],
-    pairs: &[u32],
-    bytes: &[u8],
-    canonical: &[u32],
-    label_rows: &[u16],
-    lists: &[u16],
+    body: Body<'_>,
+    tables: Tables<'_>,
     sheet: &mut [u32],
     bindings: &mut [u32],
     heads: &mut [u16],
@@ -108,21 +100,28 @@ pub fn label_branches(
     latest: usize,
     faults: usize,
 ) -> usize
-    requires tables { Tables rows.now pairs.now bytes.now canonical.now label_rows.now lists.now (suc row.0) }
-    requires walking { Walking rows.now pairs.now bytes.now row.0 faults sheet.old bindings.old heads.old goto_or_label.now }
-    requires row_bound { (row.0 < row_count rows.now) × (is_label rows.now pairs.now bytes.now row.0 ≡ true) }
-    requires latest_value { latest ≡ word (latest_declaration rows.now pairs.now bytes.now row.0) }
-    ensures { Walked rows.now pairs.now bytes.now (suc row.0) result sheet.old bindings.old
+    requires tables { HasTables body.rows.now body.pairs.now body.bytes.now tables.canonical.now tables.label_rows.now tables.lists.now (suc row.0) }
+    requires walking { Walking body.rows.now body.pairs.now body.bytes.now row.0 faults sheet.old bindings.old heads.old goto_or_label.now }
+    requires row_bound { (row.0 < row_count body.rows.now) × (is_label body.rows.now body.pairs.now body.bytes.now row.0 ≡ true) }
+    requires latest_value { latest ≡ word (latest_declaration body.rows.now body.pairs.now body.bytes.now row.0) }
+    ensures { Walked body.entry.rows.now body.entry.pairs.now body.entry.bytes.now (suc row.0) result sheet.old bindings.old
         sheet.new bindings.new heads.new goto_or_label.now }
 {
-    let c = tables::canon_of(rows, canonical, row);
+    let c = tables::canon_of(body.rows, tables.canonical, row);
     let r = row.0;
-    let more = declare(rows, sheet, bindings, wide(label_rows[c]), row, faults);
-    let list = wide(lists[r]);
-    let head = wide(heads[c]);
+    let more = declare(
+        body.rows,
+        sheet,
+        bindings,
+        usize::from(tables.label_rows[c]),
+        row,
+        faults,
+    );
+    let list = usize::from(tables.lists[r]);
+    let head = usize::from(heads[c]);
     let end = more + count_jumps_over(goto_or_label, head, list, latest);
     let left = resolve(
-        rows,
+        body.rows,
         sheet,
         bindings,
         goto_or_label,

@@ -65,8 +65,10 @@ module _ (w : List ℕ) (r : ℕ) where
       let c = class w r in
       well-not-bad (well-other w r (other-class c break b refl) (other-class c continue b refl) (other-class c fallthrough b refl))
 
-  pub other-not-bad : (k : ℕ) → k ≡ kind w r → detail_allowed (kind w r) (detail w r) ≡ true → (k ≡ 11 → ⊥) → false ≡ badly_placed w r
-  other-not-bad k e a n = no-branch-not-bad (sym (by-words is_branch w r k (eqb k 11) (own-branch w r) e a (λ d x. kind-jump k d x)) ∙ ne_eqb k 11 n)
+  pub other-not-bad : detail_allowed (kind w r) (detail w r) ≡ true → (kind w r ≡ 11 → ⊥) → false ≡ badly_placed w r
+  other-not-bad a n =
+      let k = kind w r in
+      no-branch-not-bad (sym (by-words is_branch w r k (eqb k 11) (own-branch w r) refl a (λ d x. kind-jump k d x)) ∙ ne_eqb k 11 n)
 
   pub named-not-bad : (n : ℕ) → n ≡ name w r → (n ≡ 0 → ⊥) → false ≡ badly_placed w r
   unfolding badly_placed

@@ -24,16 +24,16 @@ use Rattle.rules.proofs.Placed.{ends-none, ends_by, in-switch}
 use Rattle.placing.specs.Reach.{FormedLists}
 
 -- ---- Empty rows, by their kind
-module _ (w : List ℕ) (r k : ℕ) (e : k ≡ kind w r) (a : detail_allowed (kind w r) (detail w r) ≡ true) where
-  pub empty-row : k ≡ 2 → class w r ≡ empty
-  empty-row z = is_one (class w r) empty (sym (row-empty w r k e a) ∙ eq-eqb k 2 z)
+module _ (w : List ℕ) (r : ℕ) (a : detail_allowed (kind w r) (detail w r) ≡ true) where
+  pub empty-row : kind w r ≡ 2 → class w r ≡ empty
+  empty-row z = is_one (class w r) empty (sym (row-empty w r (kind w r) refl a) ∙ eq-eqb (kind w r) 2 z)
 
-  pub not-only-empty : (c x : ℕ) → (k ≡ 2 → ⊥) → c ≤ r → r < x → false ≡ only_empty w c x
+  pub not-only-empty : (c x : ℕ) → (kind w r ≡ 2 → ⊥) → c ≤ r → r < x → false ≡ only_empty w c x
   not-only-empty c x n h l = case-of (only_empty w c x)
       (λ t.
       let y : one_of (empty ∷ []) (class w r) ≡ true = rw (only-empty w c x t r h l) in
-      let z = row-empty w r k e a ∙ y in
-      absurd (n (eqb-true k 2 z)))
+      let z = row-empty w r (kind w r) refl a ∙ y in
+      absurd (n (eqb-true (kind w r) 2 z)))
       (λ f. sym f)
 
 pub all_more : (w : List ℕ) (c r : ℕ) → AllEmpty w c r → class w r ≡ empty → AllEmpty w c (r + 1)

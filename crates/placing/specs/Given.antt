@@ -1,13 +1,13 @@
 -- The placing call's answer as document 01's refusal, row badly placed, or none.
 -- Assumes nothing.
-use Rattle.std.proofs.Math.Option.{Option, none, some}
-use Rattle.std.specs.Prelude.{ℕ}
+use Rattle.std.specs.Prelude.{ℕ, Option, Result, Ok, Err}
+use Rattle.std.proofs.Math.Option as found
 use Rattle.rules.specs.Calls.{Answer, refused, answered}
+use Rattle.refusals.specs.declared.Refusal.{Refusal}
 use Rattle.refusals.specs.Returned.{returned}
-use Rattle.placing.specs.declared.Placing.{Placing}
-use Rattle.placing.specs.declared.Placing.TheVariants.{Refused, Bad, Well}
+use Rattle.rows.specs.declared.RowNumber.{RowNumber}
+use Rattle.rows.specs.Found.{row_found}
 
-abbrev pub given : Placing → Answer (Option ℕ)
-given (Refused r) = refused (returned r).0 (returned r).1
-given (Bad r) = answered (some r.0)
-given Well = answered none
+abbrev pub given : Result (Option RowNumber) Refusal → Answer (found.Option ℕ)
+given (Ok row) = answered (row_found row)
+given (Err r) = refused (returned r).0 (returned r).1

@@ -11,51 +11,29 @@ ghost use Rattle.rules.specs.Body.{Detailed, Formed};
 ghost use Rattle.rules.specs.Scope.{only_empty};
 ghost use Rattle.rules.specs.Placing.{ends_case, well_placed, badly_placed, placing};
 ghost use Rattle.rules.specs.Calls.{placing_call};
-ghost use Rattle.names.specs.Place.{place};
+ghost use Rattle.rows.specs.Found.{row_found};
 ghost use Rattle.placing.specs.Given.{given};
 ghost use Rattle.placing.specs.Reach.{FormedLists, Falls, Reach, Later};
 ghost use Rattle.placing.specs.Searched.{Searched};
 
 use crate::counts::next_that_counts;
-use body::Checked;
-use names::Found;
 use refusals::Refusal;
-use rows::{RowNumber, details, kinds};
+use rows::kinds::Kind;
+use rows::{RowNumber, details};
 
-#[derive(Clone, Copy)]
-pub enum Placing {
-    Refused(Refusal),
-    // the first row badly placed
-    Bad(RowNumber),
-    Well,
-}
-
-// Where the search for a row badly placed ended. It needs each row's list where it comes to an
-// unlabelled fallthrough.
-#[derive(Clone, Copy)]
-enum Search {
-    At(usize),
-    Nowhere,
-    NeedsLists,
-}
-
-fn wide(number: u16) -> usize
-    ensures { result ≡ number }
-{
-    number as usize
-}
+// The search came to an unlabelled fallthrough, for which it needs each row's list.
+#[derive(Clone, Copy, Debug, PartialEq, Eq)]
+struct NeedsLists;
 
 // Nothing but Empty from `from` on, before `end`.
 fn only_empty(rows: &[u32], from: usize, end: usize) -> bool
     requires { Detailed rows.now × (end ≤ row_count rows.now) }
     ensures { result ≡ only_empty rows.now from end }
 {
-    let mut k = from;
-    while k < end {
-        if rows::kind(rows, RowNumber(k)) != kinds::EMPTY {
+    for r in from..end {
+        if rows::kind_at(rows, RowNumber(r)) != Kind::Empty {
             return false;
         }
-        k += 1;
     }
     true
 }
@@ -68,16 +46,16 @@ fn ends_case(rows: &[u32], lists: &[u16], row: RowNumber) -> bool
     ensures { result ≡ ends_case rows.now row.0 }
 {
     let r = row.0;
-    let list = wide(lists[r]);
+    let list = usize::from(lists[r]);
     if list == 0 {
         return false;
     }
     let case = list - 1;
-    if rows::kind(rows, RowNumber(case)) != kinds::CASE {
+    if rows::kind_at(rows, RowNumber(case)) != Kind::Case {
         return false;
     }
     let case_end = case + rows::size(rows, RowNumber(case));
-    let block = wide(lists[case]);
+    let block = usize::from(lists[case]);
     if block == 0 {
         return false;
     }
@@ -85,7 +63,7 @@ fn ends_case(rows: &[u32], lists: &[u16], row: RowNumber) -> bool
     if block_end <= case_end {
         return false;
     }
-    if rows::kind(rows, RowNumber(block - 2)) != kinds::SWITCH {
+    if rows::kind_at(rows, RowNumber(block - 2)) != Kind::Switch {
         return false;
     }
     only_empty(rows, r + 1, case_end)
@@ -105,8 +83,7 @@ fn well_placed(
     requires reach { Reach rows.now is_breakable row.0 break_end × Reach rows.now is_loop row.0 loop_end }
     ensures { result ≡ well_placed rows.now row.0 }
 {
-    let detail = rows::detail(rows, row);
-    match detail {
+    match rows::detail(rows, row) {
         details::BREAK => row.0 < break_end,
         details::CONTINUE => row.0 < loop_end,
         details::FALLTHROUGH => ends_case(rows, lists, row),
@@ -127,55 +104,38 @@ fn badly_placed(
     requires reach { Reach rows.now is_breakable row.0 break_end × Reach rows.now is_loop row.0 loop_end }
     ensures { result ≡ badly_placed rows.now row.0 }
 {
-    if rows::kind(rows, row) != kinds::BRANCH {
-        return false;
-    }
-    let name = rows::name(rows, row);
-    if name.0 != 0 {
-        return false;
-    }
-    !well_placed(rows, lists, row, break_end, loop_end)
+    rows::kind_at(rows, row) == Kind::Branch
+        && rows::name_word(rows, row) == 0
+        && !well_placed(rows, lists, row, break_end, loop_end)
 }
 
 // The larger of the end so far and the row's end, where the row counts.
 fn later_end(so_far: usize, counts: bool, end: usize) -> usize
     ensures { Later so_far counts end result }
 {
-    if counts {
-        if so_far < end {
-            return end;
-        }
-    }
-    so_far
+    if counts { so_far.max(end) } else { so_far }
 }
 
 // Whether the row is an unlabelled fallthrough.
 fn is_fallthrough(rows: &[u32], row: RowNumber) -> bool
-    requires { row.0 < row_count rows.now }
+    requires { (row.0 < row_count rows.now) × Detailed rows.now }
     ensures { result ≡ false → Falls rows.now row.0 → ⊥ }
 {
-    if rows::kind(rows, row) != kinds::BRANCH {
-        return false;
-    }
-    if rows::detail(rows, row) != details::FALLTHROUGH {
-        return false;
-    }
-    rows::name_word(rows, row) == 0
+    rows::kind_at(rows, row) == Kind::Branch
+        && rows::detail(rows, row) == details::FALLTHROUGH
+        && rows::name_word(rows, row) == 0
 }
 
 // Whether the row can't be judged without lists, and there are none.
 fn needs_lists(rows: &[u32], lists: &[u16], row: RowNumber) -> bool
-    requires { row.0 < row_count rows.now }
+    requires { (row.0 < row_count rows.now) × Detailed rows.now }
     ensures { (result ≡ true → length lists.now ≡ 0) × (result ≡ false → Falls rows.now row.0 → 0 < length lists.now) }
 {
-    if lists.len() != 0 {
-        return false;
-    }
-    is_fallthrough(rows, row)
+    lists.is_empty() && is_fallthrough(rows, row)
 }
 
 // The first row badly placed. The lists are each row's, or none are lent.
-fn first_badly_placed(rows: &[u32], lists: &[u16]) -> Search
+fn first_badly_placed(rows: &[u32], lists: &[u16]) -> Result<Option<RowNumber>, NeedsLists>
     requires { Formed rows.now × (0 < length lists.now → FormedLists rows.now lists.now) }
     ensures { Searched rows.now lists.now result }
 {
@@ -186,31 +146,30 @@ fn first_badly_placed(rows: &[u32], lists: &[u16]) -> Search
     while r < count {
         let row = RowNumber(r);
         if needs_lists(rows, lists, row) {
-            return Search::NeedsLists;
+            return Err(NeedsLists);
         }
         if badly_placed(rows, lists, row, break_end, loop_end) {
-            return Search::At(r);
+            return Ok(Some(row));
         }
-        let kind = rows::kind(rows, row);
+        let kind = rows::kind_at(rows, row);
         let end = r + rows::size(rows, row);
-        break_end = later_end(break_end, rows::kinds::is_breakable(kind), end);
-        loop_end = later_end(loop_end, rows::kinds::is_loop(kind), end);
+        break_end = later_end(break_end, kind.is_breakable(), end);
+        loop_end = later_end(loop_end, kind.is_loop(), end);
         r = next_that_counts(rows, r + 1, count);
     }
-    Search::Nowhere
+    Ok(None)
 }
 
 // The first row badly placed of a well-formed body, with each row's list.
-fn placed_by_lists(rows: &[u32]) -> Found
+fn placed_by_lists(rows: &[u32]) -> Option<RowNumber>
     requires { Formed rows.now }
-    ensures { place result ≡ placing rows.now }
+    ensures { row_found result ≡ placing rows.now }
 {
     let mut lists = [0u16; 2000];
     lists::lists_of(rows, &mut lists);
     match first_badly_placed(rows, &lists) {
-        Search::At(r) => Found::At(r),
-        Search::Nowhere => Found::Nowhere,
-        Search::NeedsLists => Found::Nowhere,
+        Ok(row) => row,
+        Err(NeedsLists) => None,
     }
 }
 
@@ -219,48 +178,34 @@ fn all_labelled(rows: &[u32]) -> bool
     requires { Formed rows.now }
     ensures { result ≡ true → placing rows.now ≡ none }
 {
-    let count = rows.len() / 5;
-    let mut r = 0;
-    while r < count {
+    for r in 0..rows.len() / 5 {
         let row = RowNumber(r);
-        if rows::kind(rows, row) == kinds::BRANCH {
-            if rows::name_word(rows, row) == 0 {
-                return false;
-            }
+        if rows::kind_at(rows, row) == Kind::Branch && rows::name_word(rows, row) == 0 {
+            return false;
         }
-        r += 1;
     }
     true
 }
 
 // The first row badly placed of a well-formed body. Few bodies have a fallthrough, and the others
 // need no lists.
-pub fn placed(rows: &[u32]) -> Found
+pub fn placed(rows: &[u32]) -> Option<RowNumber>
     requires { Formed rows.now }
-    ensures { place result ≡ placing rows.now }
+    ensures { row_found result ≡ placing rows.now }
 {
     if all_labelled(rows) {
-        return Found::Nowhere;
+        return None;
     }
-    let none = [0u16; 0];
-    match first_badly_placed(rows, &none) {
-        Search::At(r) => Found::At(r),
-        Search::Nowhere => Found::Nowhere,
-        Search::NeedsLists => placed_by_lists(rows),
+    match first_badly_placed(rows, &[]) {
+        Ok(row) => row,
+        Err(NeedsLists) => placed_by_lists(rows),
     }
 }
 
-// The first row badly placed of a well-formed body, or Well; else the refusal.
-pub fn placing_of(rows: &[u32], pairs: &[u32], bytes: &[u8]) -> Placing
+// The first row badly placed of a well-formed body, if there is one; else the refusal.
+pub fn placing_of(rows: &[u32], pairs: &[u32], bytes: &[u8]) -> Result<Option<RowNumber>, Refusal>
     ensures { given result ≡ placing_call rows.now pairs.now bytes.now }
 {
-    match body::refusal_of(rows, pairs, bytes) {
-        Checked::Refused(r) => Placing::Refused(r),
-        Checked::WellFormed => {
-            match placed(rows) {
-                Found::At(r) => Placing::Bad(RowNumber(r)),
-                Found::Nowhere => Placing::Well,
-            }
-        }
-    }
+    body::refusal_of(rows, pairs, bytes)?;
+    Ok(placed(rows))
 }

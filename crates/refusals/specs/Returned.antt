@@ -1,6 +1,7 @@
--- What a refusal returns: its number and index in documents 01 and 02.
+-- What a refusal returns: its number and index in documents 01 and 02; and a call's answer by that.
 -- Assumes nothing.
-use Rattle.std.specs.Prelude.{ℕ}
+use Rattle.std.specs.Prelude.{ℕ, Result, Ok, Err}
+use Rattle.rules.specs.Calls.{Answer, refused, answered}
 use Rattle.refusals.specs.declared.Refusal.{Refusal}
 use Rattle.refusals.specs.declared.Refusal.TheVariants.{RowWords, NameWords, Pair, Row, Shape, SecondDefault, Depth, TooShort, Faulty, Choice}
 
@@ -15,3 +16,8 @@ returned (Depth r) = (6, r.0)
 returned TooShort = (7, 0)
 returned Faulty = (8, 0)
 returned (Choice i) = (9, i)
+
+-- the answer, or the refusal's number and index
+abbrev pub given : {A : Type 0} → Result A Refusal → Answer A
+given (Ok x) = answered x
+given (Err r) = refused (returned r).0 (returned r).1

@@ -5,9 +5,11 @@ ghost use Rattle.std.specs.Prelude.{◌≡◌};
 ghost use Rattle.refusals.specs.Returned.{returned};
 
 use rows::RowNumber;
+use std::error::Error;
+use std::fmt;
 
 // In the order in which the causes are tried.
-#[derive(Clone, Copy)]
+#[derive(Clone, Copy, Debug, PartialEq, Eq)]
 pub enum Refusal {
     // 1: row words empty, not a multiple of 5, or over 2,000 rows
     RowWords,
@@ -31,38 +33,49 @@ pub enum Refusal {
     Choice(usize),
 }
 
-// The refusal's number in the documents' tables.
-pub fn number_of(refusal: Refusal) -> u32
-    ensures { result ≡ (returned refusal).0 }
-{
-    match refusal {
-        Refusal::RowWords => 1,
-        Refusal::NameWords => 2,
-        Refusal::Pair(_) => 3,
-        Refusal::Row(_) => 4,
-        Refusal::Shape(_) => 5,
-        Refusal::SecondDefault(_) => 10,
-        Refusal::Depth(_) => 6,
-        Refusal::TooShort => 7,
-        Refusal::Faulty => 8,
-        Refusal::Choice(_) => 9,
+impl Refusal {
+    // The refusal's number in the documents' tables.
+    pub fn number(self) -> u32
+        ensures { result ≡ (returned self).0 }
+    {
+        match self {
+            Refusal::RowWords => 1,
+            Refusal::NameWords => 2,
+            Refusal::Pair(_) => 3,
+            Refusal::Row(_) => 4,
+            Refusal::Shape(_) => 5,
+            Refusal::SecondDefault(_) => 10,
+            Refusal::Depth(_) => 6,
+            Refusal::TooShort => 7,
+            Refusal::Faulty => 8,
+            Refusal::Choice(_) => 9,
+        }
+    }
+
+    // The row, pair or choice that it is returned with; 0 where there is none.
+    pub fn index(self) -> usize
+        ensures { result ≡ (returned self).1 }
+    {
+        match self {
+            Refusal::RowWords => 0,
+            Refusal::NameWords => 0,
+            Refusal::Pair(i) => i,
+            Refusal::Row(r) => r.0,
+            Refusal::Shape(r) => r.0,
+            Refusal::SecondDefault(r) => r.0,
+            Refusal::Depth(r) => r.0,
+            Refusal::TooShort => 0,
+            Refusal::Faulty => 0,
+            Refusal::Choice(i) => i,
+        }
     }
 }
 
-// The row, pair or choice that it is returned with; 0 where there is none.
-pub fn index_of(refusal: Refusal) -> usize
-    ensures { result ≡ (returned refusal).1 }
-{
-    match refusal {
-        Refusal::RowWords => 0,
-        Refusal::NameWords => 0,
-        Refusal::Pair(i) => i,
-        Refusal::Row(r) => r.0,
-        Refusal::Shape(r) => r.0,
-        Refusal::SecondDefault(r) => r.0,
-        Refusal::Depth(r) => r.0,
-        Refusal::TooShort => 0,
-        Refusal::Faulty => 0,
-        Refusal::Choice(i) => i,
+// The number and the index, as the documents' tables have them.
+impl fmt::Display for Refusal {
+    fn fmt<W: fmt::Write>(&self, f: &mut fmt::Formatter<W>) -> fmt::Result {
+        write!(f, "{} {}", self.number(), self.index())
     }
 }
+
+impl Error for Refusal {}

@@ -1,24 +1,21 @@
 -- Words read into the first part of a slice are that part afterwards; and the parts of a file of the length it says are its row words, its pair words and its
 -- name bytes, which go to the end.
 -- Assumes nothing.
-use mathlib.Core.Path.{◌≡◌, sym, ◌∙◌, ap}
+use mathlib.Core.Path.{◌≡◌, ◌∙◌, ap}
 use mathlib.Core.List.{List, ◌++◌}
 use Prim.Native.Nat.{ℕ, ◌+◌, ◌-◌, ◌*◌, ◌≤◌}
 use native.Mathlib.Omega.{arith}
-use lib.ListN.{length, take, drop, length-take}
+use lib.ListN.{length, take, drop}
 use lib.Seq.{length-take-le, take_at}
 use Rattle.bodyfile.specs.File.{words, rows, names, bytes, row_words_of, pair_words_of, name_bytes}
 use Rattle.report.specs.Text.{body_text}
-use Rattle.bodyfile.specs.Limits.{said, Within}
+use Rattle.bodyfile.specs.Limits.{said}
 use Rattle.report.proofs.Counts.{words-length}
 
 pub words-read : (f : List ℕ) (i k : ℕ) (new rest old : List ℕ) → k ≤ length old → new ≡ words f i (length (take k old)) → take k (new ++ rest) ≡ words f i k
 words-read f i k new rest old h e =
     let q : new ≡ words f i k = e ∙ ap (words f i) (length-take-le k old h) in
     take_at new rest k (ap length q ∙ words-length f i k) ∙ q
-
-pub words_count : (f : List ℕ) (i k : ℕ) (new rest old : List ℕ) → k ≤ length old → new ≡ words f i (length (take k old)) → k ≡ length (take k (new ++ rest))
-words_count f i k new rest old h e = sym (ap length (words-read f i k new rest old h e) ∙ words-length f i k)
 
 pub parts : (f : List ℕ) (x y : ℕ) (w p b : List ℕ) → length f ≡ said f → x ≡ rows f → y ≡ names f → w ≡ words f 12 (x * 5)
     → p ≡ words f (12 + x * 5 * 4) (y * 2)
@@ -38,13 +35,3 @@ parts f x y w p b l e g ew ep eb =
 
     bytes-many : length f - (12 + rows f * 20 + names f * 8) ≡ bytes f
     bytes-many = omega arith
-
-pub take-most : (k n : ℕ) (l : List ℕ) → k ≤ n → length (take k l) ≤ n
-take-most k n l h = omega (arith, length-take k l)
-
--- ---- room for the words
-pub rows_fit : {f : List ℕ} {x n : ℕ} → Within f → x ≡ rows f → 10000 ≤ n → x * 5 ≤ n
-rows_fit i e h = omega (arith, i.most_rows)
-
-pub pairs-fit : {f : List ℕ} {x n : ℕ} → Within f → x ≡ names f → 1000 ≤ n → x * 2 ≤ n
-pairs-fit i e h = omega (arith, i.most_names)

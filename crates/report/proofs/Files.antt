@@ -13,11 +13,14 @@ use lib.ListN.{length, get_or, take, length-take}
 use lib.Seq.{get_or-take, take_all}
 use borrow.Author.Tests.{lt-ltb, le-ltb, eq-eqb, ne_eqb}
 use Rattle.rules.proofs.Test.{case-of}
+use Rattle.refusals.specs.declared.Refusal.{Refusal}
+use Rattle.refusals.specs.declared.Refusal.TheVariants.{RowWords, NameWords, Pair, Row, Shape, SecondDefault, Depth, TooShort, Faulty, Choice}
+use Rattle.refusals.specs.Returned.{returned}
 use Rattle.bodyfile.specs.File.{word, rows, names, bytes, row_words_of, pair_words_of, name_bytes, bad_file}
 use Rattle.report_lines.specs.Text.{refused_text}
 use Rattle.report.specs.Text.{body_text, marks_text}
 use Rattle.bodyfile.specs.Limits.{said, bad_start, count_refusal}
-use Rattle.bodyfile.proofs.Header.{start-passes, within}
+use Rattle.bodyfile.proofs.Header.{start-passes, count-1, count-2, count-0, within}
 use Rattle.report.specs.Start.{start_text}
 use Rattle.report.proofs.Counts.{counts-refused}
 
@@ -74,6 +77,11 @@ module _ (f : List ℕ) (m : ℕ) (long : 12 ≤ m) where
       ∙ ap (λ (n : ℕ). by_counts (rows f) n (bytes (take m f))) names_same
       ∙ ap (by_counts (rows f) (names f)) bytes_same
 
+counts-most : (f : List ℕ) → count_refusal f ≤ 2
+counts-most f = case-of (eqb (rows f) 0 || ltb 2000 (rows f))
+    (λ t. omega (arith, count-1 f t))
+    (λ t. case-of (ltb 500 (names f) || ltb 8000 (bytes f)) (λ u. omega (arith, count-2 f t u)) (λ u. omega (arith, count-0 f t u)))
+
 -- ---- the output from what was read, by the code's tests
 module _ (start : List ℕ) (n : ℕ) where
   pub text-bad : bad_start start n ≡ true → refused_text 0 0 ≡ start_text start n
@@ -85,6 +93,19 @@ module _ (start : List ℕ) (n : ℕ) where
     unfolding start_text
     text-counts zero e z = absurd (z refl)
     text-counts (suc k) e z = rw (t, ← e, start_text)
+
+    -- a refusal by the counts has no index
+    pub text-refusal : (r : Refusal) → (returned r).0 ≡ count_refusal start → refused_text (returned r).0 (returned r).1 ≡ start_text start n
+    text-refusal RowWords e = text-counts 1 e (λ z. omega arith)
+    text-refusal NameWords e = text-counts 2 e (λ z. omega arith)
+    text-refusal (Pair i) e = absurd (omega (arith, counts-most start))
+    text-refusal (Row i) e = absurd (omega (arith, counts-most start))
+    text-refusal (Shape i) e = absurd (omega (arith, counts-most start))
+    text-refusal (SecondDefault i) e = absurd (omega (arith, counts-most start))
+    text-refusal (Depth i) e = absurd (omega (arith, counts-most start))
+    text-refusal TooShort e = absurd (omega (arith, counts-most start))
+    text-refusal Faulty e = absurd (omega (arith, counts-most start))
+    text-refusal (Choice i) e = absurd (omega (arith, counts-most start))
 
     module _ (c : 0 ≡ count_refusal start) where
       pub text-part : (length start ≡ n → ⊥) → refused_text 0 0 ≡ start_text start n

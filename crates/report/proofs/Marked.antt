@@ -1,11 +1,11 @@
 -- The output of a body from the answer of the call that marks it: where the lent sheet and bindings have room for 2,000 rows, the call refuses what document 01
 -- refuses, and else its count, place and verdict, the sheet's first words and the bindings' are those of the definitions.
 -- Assumes nothing.
-use mathlib.Core.Path.{◌≡◌, refl, sym, ◌∙◌, ap}
+use mathlib.Core.Path.{◌≡◌, refl, ◌∙◌, ap}
 use mathlib.Core.Bool.{Bool, false}
 use mathlib.Core.List.{List, ◌++◌}
 use mathlib.Core.Option.{Option, none, some}
-use Prim.Native.Nat.{ℕ, ◌+◌, ◌*◌, ◌/◌, ◌≤◌}
+use Prim.Native.Nat.{ℕ, ◌*◌, ◌/◌, ◌≤◌}
 use native.Mathlib.Omega.{arith}
 use lib.ListN.{length, take, drop, replicate, length-append, length-replicate}
 use lib.Seq.{take_at}
@@ -14,37 +14,16 @@ use Rattle.rules.specs.Refusals.{refusal}
 use Rattle.rules.specs.Labels.{binding, sheet, bindings}
 use Rattle.rules.specs.Placing.{placing}
 use Rattle.rules.specs.Verdict.{verdict}
-use Rattle.rules.specs.Calls.{Answer, refused, answered, fault_words, too_short, label_call, placing_call, verdict_call}
+use Rattle.rules.specs.Calls.{refused, answered, fault_words, too_short, label_call, placing_call, verdict_call}
 use Rattle.rules.proofs.Each.{each-length}
 use Rattle.rules.proofs.LabelCall.{label-refused, label-written}
 use Rattle.rules.proofs.Lent.{room as has_room}
-use Rattle.rules.proofs.Test.{clash}
 use Rattle.walk_state.proofs.WalkFaults.{words-length}
 use Rattle.marking.specs.Marks.{marks_call}
 use Rattle.report_lines.specs.Text.{refused_text, sheet_text, binds_text, placed_text, verdict_text}
 use Rattle.report.specs.Text.{body_text}
 use Rattle.report_lines.specs.Lines.{sheet_lines}
 use Rattle.report_lines.proofs.SheetLines.{sheet-lines}
-
--- an answer's parts
-abbrev Marks : Type 0
-Marks = Answer (ℕ × Option ℕ × Bool)
-
-abbrev is_answered : Marks → ℕ
-is_answered (refused n i) = 0
-is_answered (answered x) = 1
-
-abbrev number : Marks → ℕ
-number (refused n i) = n
-number (answered x) = 0
-
-abbrev index : Marks → ℕ
-index (refused n i) = i
-index (answered x) = 0
-
-abbrev value : Marks → ℕ × Option ℕ × Bool
-value (refused n i) = (0, none, false)
-value (answered x) = x
 
 module _ (w p b : List ℕ) where
   -- ---- the output
@@ -82,24 +61,22 @@ module _ (w p b : List ℕ) where
     -- what the call answers is what is printed
     module _ (room : too_short w s t ≡ false) where
       refused_as : (n i : ℕ) → refused n i ≡ marks_call w p b s t → (o : Option (ℕ × ℕ)) → refusal w p b ≡ o → refused_text n i ≡ body_text w p b
-      refused_as n i e (some r) q =
-          let g : refused n i ≡ refused r.0 r.1 = e ∙ call-refused r q in
-          ap (λ (k : ℕ). refused_text k i) (ap number g) ∙ ap (refused_text r.0) (ap index g) ∙ text-refused r q
-      refused_as n i e none q = absurd (clash (ap is_answered (e ∙ call-answered q room)))
+      refused_as n i e (some r) q = let t = text-refused r q in cc (call-refused r q)
+      refused_as n i e none q = absurd (cc (call-answered q room))
 
       pub refused-text : (n i : ℕ) → refused n i ≡ marks_call w p b s t → refused_text n i ≡ body_text w p b
       refused-text n i e = refused_as n i e (refusal w p b) refl
 
       module _ (n : ℕ) (o : Option ℕ) (v : Bool) (e : answered (n, o, v) ≡ marks_call w p b s t) where
         none-refused : (x : Option (ℕ × ℕ)) → refusal w p b ≡ x → refusal w p b ≡ none
-        none-refused (some r) q = absurd (clash (sym (ap is_answered (e ∙ call-refused r q))))
+        none-refused (some r) q = absurd (cc (call-refused r q))
         none-refused none q = q
 
         pub accepted : refusal w p b ≡ none
         accepted = none-refused (refusal w p b) refl
 
         same : ◌≡◌ {A = ℕ × Option ℕ × Bool} (n, o, v) (length (sheet w p b), placing w, verdict w p b)
-        same = ap value (e ∙ call-answered accepted room)
+        same = cc (call-answered accepted room)
 
         pub count-is : n ≡ length (sheet w p b)
         count-is = ap (λ (x : ℕ × Option ℕ × Bool). x.0) same

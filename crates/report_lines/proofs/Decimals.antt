@@ -3,7 +3,7 @@
 -- Assumes nothing.
 use mathlib.Core.Path.{◌≡◌, refl, sym, ◌∙◌, ap}
 use mathlib.Core.Bool.{Bool, false}
-use mathlib.Core.List.{List, [], ◌∷◌, ◌++◌}
+use mathlib.Core.List.{[], ◌∷◌, ◌++◌}
 use mathlib.Core.Option.{none, some}
 use Prim.Native.Nat.{ℕ, zero, suc, ◌+◌, ◌-◌, ◌/◌, ◌%◌, ◌^◌, ◌≤◌, ◌<◌}
 use native.Mathlib.Nat.{pow-le-pow_right}
@@ -17,7 +17,6 @@ use Rattle.rules.proofs.Scan.{found-lowest, lowest-none, lowest-found, lowest-fi
 use Rattle.rules.proofs.Test.{case-found, clash}
 use Rattle.io.specs.Digits.{hex_digit_ascii, last_digits, IsDigitCount}
 use Rattle.report_lines.specs.Text.{decimal}
-use Rattle.report_lines.specs.Wrote.{Wrote}
 
 abbrev holds : ℕ → ℕ → Bool
 holds n k = ltb n (10 ^ suc k)
@@ -65,14 +64,20 @@ decimal-most n k h l = case-found (lowest (holds n) 20)
     ])
     (λ e. absurd (clash (cc (lowest-none (holds n) 20 k e l, lt-ltb n (10 ^ suc k) h))))
 
-pub decimal-twenty : (n : ℕ) → length (decimal n) ≤ 20
-decimal-twenty n = case-found (lowest (holds n) 20)
+pub decimal_twenty : (n : ℕ) → length (decimal n) ≤ 20
+decimal_twenty n = case-found (lowest (holds n) 20)
     (λ j e. omega (arith, ap length (decimal-found n j e), digits-length 10 (suc j) n, (lowest-found (holds n) 20 j e).0))
     (λ e. omega (arith, ap length (decimal-none n e)))
 
--- ---- where a number with the byte behind it ends
-pub number-ends : {o o' : List ℕ} {at e n : ℕ} (k after : ℕ) → n < 10 ^ suc k → k < 20 → Wrote o o' at (decimal n ++ (after ∷ [])) e → e ≤ at + (k + 2)
-number-ends {n = n} k after h l f = omega (arith, f.ends, length-append (decimal n) (after ∷ []), decimal-most n k h l)
+-- ---- a number with the byte behind it: any, a word of 32 bits, a row
+behind-length : (n k after : ℕ) → length (decimal n) ≤ k → length (decimal n ++ (after ∷ [])) ≤ k + 1
+behind-length n k after h = omega (arith, length-append (decimal n) (after ∷ []))
 
-pub any-ends : {o o' : List ℕ} {at e : ℕ} (n after : ℕ) → Wrote o o' at (decimal n ++ (after ∷ [])) e → e ≤ at + 21
-any-ends n after f = omega (arith, f.ends, length-append (decimal n) (after ∷ []), decimal-twenty n)
+pub any_length : (n after : ℕ) → length (decimal n ++ (after ∷ [])) ≤ 21
+any_length n after = behind-length n 20 after (decimal_twenty n)
+
+pub word_length : (n after : ℕ) → n < 4294967296 → length (decimal n ++ (after ∷ [])) ≤ 11
+word_length n after h = behind-length n 10 after (decimal-most n 9 (omega arith) (omega arith))
+
+pub row_length : (n after : ℕ) → n < 10000 → length (decimal n ++ (after ∷ [])) ≤ 5
+row_length n after h = behind-length n 4 after (decimal-most n 3 (omega arith) (omega arith))

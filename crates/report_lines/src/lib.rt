@@ -6,12 +6,12 @@ pub mod text;
 
 ghost use Rattle.std.specs.Prelude.{◌≡◌, ◌+◌, ◌*◌, ◌≤◌, ◌<◌, length, take};
 ghost use Rattle.io.specs.Counts.{IsPrefixLen};
-ghost use Rattle.names.specs.Place.{place};
+ghost use Rattle.rows.specs.Found.{row_found};
 ghost use Rattle.report_lines.specs.Text.{bind_line, binds_text, placed_text, verdict_text, refused_text};
 ghost use Rattle.report_lines.specs.Wrote.{Wrote};
 ghost use Rattle.report_lines.specs.Lines.{sheet_line, sheet_lines, bound_below};
 
-use names::Found;
+use rows::RowNumber;
 
 // Row `row` of the sheet, as a line: at most 44 bytes.
 fn fault_line(sheet: &[u32], row: usize, out: &mut [u8], at: usize) -> usize
@@ -27,16 +27,15 @@ fn fault_line(sheet: &[u32], row: usize, out: &mut [u8], at: usize) -> usize
 }
 
 // The sheet: its count, and a line a row.
+#[tactic(auto, using(crate::proofs::Parts::one_line), unfolding(crate::specs::Lines::sheet_lines, rules::specs::Labels::each))]
 pub fn sheet_text(sheet: &[u32], count: usize, out: &mut [u8], at: usize) -> usize
     requires { (count * 4 ≤ length sheet.now) × (at + 37 + count * 44 ≤ length out.old) }
     ensures text { Wrote out.old out.new at (sheet_lines sheet.now count) result }
     ensures most { result ≤ at + 27 + count * 44 }
 {
     let mut end = text::title(b"sheet ", count, out, at);
-    let mut i = 0;
-    while i < count {
+    for i in 0..count {
         end = fault_line(sheet, i, out, end);
-        i += 1;
     }
     end
 }
@@ -45,18 +44,11 @@ pub fn sheet_text(sheet: &[u32], count: usize, out: &mut [u8], at: usize) -> usi
 fn bound_count(bindings: &[u32]) -> usize
     ensures { result ≡ bound_below bindings.now (length bindings.now) }
 {
-    let mut count = 0;
-    let mut row = 0;
-    while row < bindings.len() {
-        if bindings[row] != 0 {
-            count += 1;
-        }
-        row += 1;
-    }
-    count
+    bindings.iter().filter(|word| **word != 0).count()
 }
 
 // The row and the row of its label, as a line, where the row is bound: at most 16 bytes.
+#[tactic(auto, using(crate::proofs::Decimals::row_length))]
 fn bind_line(bindings: &[u32], row: usize, out: &mut [u8], at: usize) -> usize
     requires { (row < length bindings.now) × ((length bindings.now ≤ 2000) × (at + 26 ≤ length out.old)) }
     ensures text { Wrote out.old out.new at (bind_line bindings.now row) result }
@@ -71,29 +63,28 @@ fn bind_line(bindings: &[u32], row: usize, out: &mut [u8], at: usize) -> usize
 }
 
 // The bindings: how many rows are bound, and a line for each.
+#[tactic(auto, using(crate::proofs::Parts::one_line), unfolding(crate::specs::Text::binds_text, crate::specs::Lines::bound_below, rules::specs::Labels::each))]
 pub fn binds_text(bindings: &[u32], out: &mut [u8], at: usize) -> usize
     requires { (length bindings.now ≤ 2000) × (at + 37 + length bindings.now * 16 ≤ length out.old) }
     ensures text { Wrote out.old out.new at (binds_text bindings.now) result }
     ensures most { result ≤ at + 27 + length bindings.now * 16 }
 {
     let mut end = text::title(b"binds ", bound_count(bindings), out, at);
-    let mut row = 0;
-    while row < bindings.len() {
+    for row in 0..bindings.len() {
         end = bind_line(bindings, row, out, end);
-        row += 1;
     }
     end
 }
 
 // Whether all rows are well placed, and the first that isn't.
-pub fn placed_text(placed: Found, out: &mut [u8], at: usize) -> usize
+pub fn placed_text(placed: Option<RowNumber>, out: &mut [u8], at: usize) -> usize
     requires { at + 31 ≤ length out.old }
-    ensures text { Wrote out.old out.new at (placed_text (place placed)) result }
+    ensures text { Wrote out.old out.new at (placed_text (row_found placed)) result }
     ensures most { result ≤ at + 31 }
 {
     match placed {
-        Found::At(row) => text::title(b"placed no ", row, out, at),
-        Found::Nowhere => text::bytes(b"placed yes\n", out, at),
+        Some(row) => text::title(b"placed no ", row.0, out, at),
+        None => text::bytes(b"placed yes\n", out, at),
     }
 }
 

@@ -1,10 +1,11 @@
--- The statement rule at a row whose kind and size the code has read: what each arm of it requires at its calls, and what it answers.
+-- The statement rule at a row whose size the code has read: what each arm of it requires at its calls, and what it answers.
 -- An arm's kind gives the row's class, and the class its rule; what the class settles is one test over the table of the allowed details.
 -- Assumes nothing.
-use mathlib.Core.Path.{◌≡◌, refl, sym, ◌∙◌, ap, subst}
+use mathlib.Core.Path.{◌≡◌, refl, sym, ◌∙◌, ap}
 use mathlib.Core.Bool.{Bool, true, false, ◌&&◌, ◌||◌, not}
-use mathlib.Core.List.{List, [], ◌∷◌}
-use Prim.Native.Nat.{ℕ, suc, ◌+◌, ◌*◌, ◌<◌}
+use mathlib.Core.List.{List, [], ◌∷◌, map}
+use mathlib.Core.Logic.{inl, inr}
+use Prim.Native.Nat.{ℕ, suc, ◌+◌, ◌*◌, ◌≤◌, ◌<◌}
 use native.Mathlib.Omega.{arith}
 use native.Mathlib.Numerals.{add-one}
 use lib.Dec.{eqb, leb}
@@ -18,10 +19,14 @@ use Rattle.rules.specs.Body.{Body, fits}
 use Rattle.rules.proofs.Test.{and-true}
 use Rattle.rules.proofs.Every.{every, implies, implied, same, same-eq}
 use Rattle.rules.proofs.Details.{of-allowed}
-use Rattle.rules.proofs.ByKind.{among, NoneOf, none-among, switches}
+use Rattle.rules.proofs.ByKind.{among}
 use Rattle.rules.proofs.Classes.{no_block}
 use Rattle.rules.proofs.Shape.{opens}
 use Rattle.rules.proofs.ClassRules.{is_never, is_always, child-rule}
+use Rattle.rows.specs.Kinds.{number}
+use Rattle.rows.specs.declared.kinds.Kind.{Kind}
+use Rattle.rows.specs.declared.kinds.Kind.TheVariants.{Labeled, Expr, Return, Branch, Block, If, Switch, TypeSwitch, Select, For}
+use Rattle.rows.proofs.Numbers.{OneOf, NoKind, is-kind, not-kind, not-among}
 use Rattle.breaks.specs.Leaves.{label_number, Closed, any_leaves}
 use Rattle.returns.specs.Search.{is_terminating_body, is_terminating_list}
 use Rattle.breaks.proofs.Ranges.{label-on, no-label-on, closed-below, label_after}
@@ -31,14 +36,13 @@ use Rattle.breaks.proofs.Referring.{has-break-below}
 use Rattle.returns.proofs.Calls as calls
 use Rattle.returns.proofs.Calls.{RowCall, ListCall, SwitchCall}
 
--- the row r has the kind k and the size n, and t is its measure
-pub record Known (w p b : List ℕ) (t r label k n : ℕ) : Type 0 where
+-- the row r has the size n, and t is its measure
+pub record Known (w p b : List ℕ) (t r label n : ℕ) : Type 0 where
   pub measure : 2 * size w r ≡ t
   pub body : Body w p b
   pub row : r < row_count w
   pub statement : is_statement (class w r) ≡ true
   pub labelled : label ≡ label_number w r
-  pub kind-is : k ≡ kind w r
   pub size_is : n ≡ size w r
 
 -- what stands directly below a Labeled row or an If with an else is a statement
@@ -51,15 +55,12 @@ abbrev settles : Bool → Class → Bool
 settles t c = same t (is_always c) && (is_never c || is_always c)
 
 -- the kinds with an arm of their own
-abbrev pub arms : List ℕ
-arms = 19 ∷ 18 ∷ 16 ∷ 15 ∷ 13 ∷ 12 ∷ 11 ∷ 10 ∷ 4 ∷ 3 ∷ []
+abbrev pub arms : List Kind
+arms = For ∷ Select ∷ TypeSwitch ∷ Switch ∷ If ∷ Block ∷ Branch ∷ Return ∷ Expr ∷ Labeled ∷ []
 
-module _ {w p b : List ℕ} {t r label k n : ℕ} (a : Known w p b t r label k n) where
+module _ {w p b : List ℕ} {t r label n : ℕ} (a : Known w p b t r label n) where
   allowed : detail_allowed (kind w r) (detail w r) ≡ true
   allowed = a.body.details r a.row
-
-  is : {m : ℕ} → k ≡ m → kind w r ≡ m
-  is e = sym a.kind-is ∙ e
 
   -- ---- rows that the class settles
 
@@ -75,79 +76,85 @@ module _ {w p b : List ℕ} {t r label k n : ℕ} (a : Known w p b t r label k n
       let x = and-true (same u (is_always (class w r))) (is_never (class w r) || is_always (class w r)) s in
       same-eq u (is_always (class w r)) x.0 ∙ sym (row_settled a.body r a.row x.1)
 
-  pub expr-answer : k ≡ 4 → {d : ℕ} → d ≡ detail w r → eqb d 1 ≡ is_terminating_body w p b r
+  pub expr-answer : 4 ≡ kind w r → {d : ℕ} → d ≡ detail w r → eqb d 1 ≡ is_terminating_body w p b r
   unfolding every lowest detail_allowed class_of
-  expr-answer e q = rw q (answers (λ k d. eqb k 4) (λ k d. eqb d 1) refl (rw (is e)) (rw (is e)))
+  expr-answer e q = rw q (answers (λ k d. eqb k 4) (λ k d. eqb d 1) refl (rw (sym e)) (rw (sym e)))
 
-  pub return-answer : k ≡ 10 → true ≡ is_terminating_body w p b r
+  pub return-answer : 10 ≡ kind w r → true ≡ is_terminating_body w p b r
   unfolding every lowest detail_allowed class_of
-  return-answer e = answers (λ k d. eqb k 10) (λ k d. true) refl (rw (is e)) (rw (is e))
+  return-answer e = answers (λ k d. eqb k 10) (λ k d. true) refl (rw (sym e)) (rw (sym e))
 
-  pub branch-answer : k ≡ 11 → {d : ℕ} → d ≡ detail w r → leb 2 d ≡ is_terminating_body w p b r
+  pub branch-answer : 11 ≡ kind w r → {d : ℕ} → d ≡ detail w r → leb 2 d ≡ is_terminating_body w p b r
   unfolding every lowest detail_allowed class_of
-  branch-answer e q = rw q (answers (λ k d. eqb k 11) (λ k d. leb 2 d) refl (rw (is e)) (rw (is e)))
+  branch-answer e q = rw q (answers (λ k d. eqb k 11) (λ k d. leb 2 d) refl (rw (sym e)) (rw (sym e)))
 
-  pub other-answer : NoneOf arms k → false ≡ is_terminating_body w p b r
+  pub other-answer : (k : Kind) → number k ≡ kind w r → NoKind arms k → false ≡ is_terminating_body w p b r
   unfolding every lowest detail_allowed class_of base
-  other-answer m =
-      let n = subst (NoneOf arms) a.kind-is m in
-      let o = ne_eqb (kind w r) 12 n.0.0.0.0.0.1 in
+  other-answer k q m =
+      let o = ne_eqb (kind w r) 12 (not-kind q m.0.0.0.0.0.1) in
       let s : is_statement (class_of (kind w r) (detail w r)) ≡ true = sym (ap is_statement (no_block w r allowed o)) ∙ a.statement in
-      answers (λ k d. not (among arms k) && is_statement (class_of k d)) (λ k d. false) refl o (rw (none-among arms (kind w r) n, s))
+      answers (λ k d. not (among (map number arms) k) && is_statement (class_of k d)) (λ k d. false) refl o (rw (not-among k arms q m, s))
 
   -- ---- Labeled
-  pub labeled-call : k ≡ 3 → {m : ℕ} → m ≡ name w r → RowCall w p b t (r + 1) m
+  pub labeled-call : 3 ≡ kind w r → {m : ℕ} → m ≡ name w r → RowCall w t (r + 1) m
   labeled-call e q =
-      let c = labeled-kind w r allowed (is e) in
+      let c = labeled-kind w r allowed (sym e) in
       let (l, i) = a.body.one_statement r a.row (rw c) in
       let m = a.body.sized.within r a.row in
       let x = a.measure in
       let s = part_of (class w r) (class w (suc r)) (rw c) (a.body.child_fits r (suc r) a.row (here l)) in
-      rw (add-one r) (omega arith, (a.body, omega arith, s, q ∙ sym (label-on w r c)))
+      rw (add-one r) (omega arith, (omega arith, s, q ∙ sym (label-on w r c)))
 
-  pub labeled-answer : k ≡ 3 → {u : Bool} → u ≡ is_terminating_body w p b (r + 1) → u ≡ is_terminating_body w p b r
-  labeled-answer e q = rw (add-one r) at q ∙ sym (row-labeled a.body r a.row (labeled-kind w r allowed (is e)))
+  pub labeled-answer : 3 ≡ kind w r → {u : Bool} → u ≡ is_terminating_body w p b (r + 1) → u ≡ is_terminating_body w p b r
+  labeled-answer e q = rw (add-one r) at q ∙ sym (row-labeled a.body r a.row (labeled-kind w r allowed (sym e)))
 
   -- ---- the rows below
-  pub below : Body w p b × Closed w (r + 1) (r + n)
-  below = (a.body, rw (a.size_is, add-one r) (closed-below a.body r a.row))
+  pub below : Closed w (r + 1) (r + n)
+  below = rw (a.size_is, add-one r) (closed-below a.body r a.row)
 
   -- ---- Block: one that is a statement is that of a list
-  holds-list : k ≡ 12 → is_list (class w r) ≡ true
-  holds-list e = rw (block-kind w r allowed (is e) a.statement)
+  holds-list : 12 ≡ kind w r → is_list (class w r) ≡ true
+  holds-list e = rw (block-kind w r allowed (sym e) a.statement)
 
-  pub list-call : k ≡ 12 → ListCall w p b t (r + 1) (r + n)
+  pub list-call : 12 ≡ kind w r → ListCall w t (r + 1) (r + n)
   list-call e = calls.list-call a.body r a.row (holds-list e) (omega (arith, a.measure)) a.size_is
 
-  pub list-answer : k ≡ 12 → {u : Bool} → u ≡ is_terminating_list w p b (r + n) (r + 1) → u ≡ is_terminating_body w p b r
+  pub list-answer : 12 ≡ kind w r → {u : Bool} → u ≡ is_terminating_list w p b (r + n) (r + 1) → u ≡ is_terminating_body w p b r
   list-answer e q = rw (a.size_is, add-one r) at q ∙ sym (row_list a.body r a.row (holds-list e))
 
   -- ---- If
-  module _ (e : k ≡ 13) {d : ℕ} (q : d ≡ detail w r) where
+  module _ (e : 13 ≡ kind w r) {d : ℕ} (q : d ≡ detail w r) where
     pub if-answer : d ≡ 0 → false ≡ is_terminating_body w p b r
     unfolding every lowest detail_allowed class_of
-    if-answer z = answers (λ k d. eqb k 13 && eqb d 0) (λ k d. false) refl (rw (is e)) (rw (is e, ← q, z))
+    if-answer z = answers (λ k d. eqb k 13 && eqb d 0) (λ k d. false) refl (rw (sym e)) (rw (sym e, ← q, z))
 
     module _ (x : d ≡ 0 → ⊥) where
       has-else : class w r ≡ if_else
-      has-else = else-kind w r allowed (is e) (λ z. x (q ∙ z))
+      has-else = else-kind w r allowed (sym e) (λ z. x (q ∙ z))
 
-      pub then-call : RowCall w p b t (r + 1) 0
+      pub then-call : RowCall w t (r + 1) 0
       then-call =
           let (l, k, i, j) = a.body.two_parts r a.row (rw has-else) in
           let m = a.body.sized.within r a.row in
           let y = a.measure in
-          rw (add-one r) (omega arith, (a.body, omega arith, rw k, sym (no-label-on w r (rw has-else))))
+          rw (add-one r) (omega arith, (omega arith, rw k, sym (no-label-on w r (rw has-else))))
 
       -- m is the first part's size as the code read it
-      pub else-call : {m : ℕ} → m ≡ size w (r + 1) → RowCall w p b t (r + 1 + m) 0
+      pub else-fits : {m : ℕ} → m ≡ size w (r + 1) → r + 1 + m ≤ 2000
+      else-fits z =
+          let (l, k, i, j) = a.body.two_parts r a.row (rw has-else) in
+          let m = a.body.sized.within r a.row in
+          let x = a.body.most_rows in
+          rw (z, add-one r) (omega arith)
+
+      pub else-call : {m : ℕ} → m ≡ size w (r + 1) → RowCall w t (r + 1 + m) 0
       else-call z =
           let (l, k, i, j) = a.body.two_parts r a.row (rw has-else) in
           let m = a.body.sized.within r a.row in
           let y = a.measure in
           let d : suc r < row_count w = omega arith in
           let s = part_of (class w r) (class w (end w (suc r))) (rw has-else) (a.body.child_fits r (end w (suc r)) a.row (later l (here i))) in
-          rw (z, add-one r) (omega arith, (a.body, omega arith, s, sym (label_after a.body (suc r) d)))
+          rw (z, add-one r) (omega arith, (omega arith, s, sym (label_after a.body (suc r) d)))
 
       -- with u for the first part
       with_first : {u : Bool} (v : Bool) → u ≡ is_terminating_body w p b (r + 1) → u ≡ v → is_terminating_body w p b r ≡ v && is_terminating_body w p b (end w (suc r))
@@ -162,26 +169,27 @@ module _ {w p b : List ℕ} {t r label k n : ℕ} (a : Known w p b t r label k n
       both-parts f g z h = rw (z, add-one r) at h ∙ sym (with_first true f g)
 
   -- ---- Switch, TypeSwitch and Select: the rule of a switch takes the same row
-  same_row : {found : Bool} → (opens (class w r) ≡ true) × (found ≡ is_class w select r) → SwitchCall w p b t r label found
+  same_row : {found : Bool} → (opens (class w r) ≡ true) × (found ≡ is_class w select r) → SwitchCall w t r label found
   same_row (o, f) =
       let m = a.body.sized.some_rows r a.row in
       let x = a.measure in
-      (omega arith, (a.body, a.row, o, f, a.labelled))
+      (omega arith, (a.row, o, f, a.labelled))
 
-  pub switch-call : (m : ℕ) → k ≡ m → among switches m ≡ true → eqb m 12 ≡ false → SwitchCall w p b t r label false
-  switch-call m e s o = same_row (switch-kind w r allowed m (is e) s o)
+  pub switch-call : {k : Kind} → number k ≡ kind w r → OneOf (Switch ∷ TypeSwitch ∷ []) k → SwitchCall w t r label false
+  switch-call q (inl e) = same_row (switch-kind w r allowed 15 (is-kind q e) refl refl)
+  switch-call q (inr e) = same_row (switch-kind w r allowed 16 (is-kind q e) refl refl)
 
-  pub select-call : k ≡ 18 → SwitchCall w p b t r label true
-  select-call e = same_row (select-kind w r allowed (is e))
+  pub select-call : 18 ≡ kind w r → SwitchCall w t r label true
+  select-call e = same_row (select-kind w r allowed (sym e))
 
   -- ---- For
-  module _ (e : k ≡ 19) {d : ℕ} (q : d ≡ detail w r) where
+  module _ (e : 19 ≡ kind w r) {d : ℕ} (q : d ≡ detail w r) where
     pub for-answer : d ≡ 1 → false ≡ is_terminating_body w p b r
     unfolding every lowest detail_allowed class_of
-    for-answer z = answers (λ k d. eqb k 19 && eqb d 1) (λ k d. false) refl (rw (is e)) (rw (is e, ← q, z))
+    for-answer z = answers (λ k d. eqb k 19 && eqb d 1) (λ k d. false) refl (rw (sym e)) (rw (sym e, ← q, z))
 
     pub loop-answer : (d ≡ 1 → ⊥) → {u : Bool} → u ≡ any_leaves w p b (r + 1) (r + n) label true → not u ≡ is_terminating_body w p b r
     loop-answer x f =
-        let c = for-kind w r allowed (is e) (λ z. x (q ∙ z)) in
+        let c = for-kind w r allowed (sym e) (λ z. x (q ∙ z)) in
         let g = has-break-below a.body r a.row (rw c) in
         ap not (rw (a.size_is, add-one r, a.labelled) at f ∙ sym g) ∙ sym (row-for a.body r a.row c)

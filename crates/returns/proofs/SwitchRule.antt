@@ -67,7 +67,7 @@ module _ {w p b : List ℕ} {t r label n : ℕ} {found : Bool} (o : Opened w p b
 
       -- m is the clause's size as the code read it, and u and v what the calls answered
       module _ {m : ℕ} (z : m ≡ size w c) where
-        pub clause-call : ListCall w p b t (c + 1) (c + m)
+        pub clause-call : ListCall w t (c + 1) (c + m)
         clause-call =
             let u = (closed-rest o.body a.closed l).order in
             let v = item_from (a.item l) in

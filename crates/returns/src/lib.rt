@@ -6,65 +6,53 @@ ghost use Rattle.std.specs.Prelude.{◌≡◌, true, ◌||◌, ◌<◌};
 ghost use Rattle.rules.specs.Rows.{row_count};
 ghost use Rattle.rules.specs.Class.{select, is_switch, is_statement, class};
 ghost use Rattle.rules.specs.Labels.{is_class};
-ghost use Rattle.rules.specs.Body.{Sized, Detailed, Body};
+ghost use Rattle.rules.specs.Body.{Sized, Detailed};
 ghost use Rattle.rules.specs.Calls.{verdict_call};
-ghost use Rattle.returns.specs.Given.{given};
+ghost use Rattle.refusals.specs.Returned.{given};
 ghost use Rattle.breaks.specs.Leaves.{label_number, Closed, Statements};
 ghost use Rattle.returns.specs.Search.{OneRowEmpties, UnlessEmpty, Lasts, is_terminating_body, is_terminating_list};
 
-use body::Checked;
-use names::{Found, NameNumber};
+use body::Body;
+use names::NameNumber;
 use refusals::Refusal;
-use rows::{RowNumber, details, kinds};
-
-#[derive(Clone, Copy)]
-pub enum Verdict {
-    Refused(Refusal),
-    Yes,
-    No,
-}
+use rows::kinds::Kind;
+use rows::{RowNumber, details};
 
 // Whether the statement is terminating. If it is labelled, `label` is the name of the label directly
 // on it.
 #[cycle(is_terminating_is_terminating_list_is_terminating_switch)]
-pub fn is_terminating(
-    rows: &[u32],
-    pairs: &[u32],
-    bytes: &[u8],
-    row: RowNumber,
-    label: NameNumber,
-) -> bool
-    requires { Body rows.now pairs.now bytes.now × (row.0 < row_count rows.now) × (is_statement (class rows.now row.0) ≡ true)
-        × (label.0 ≡ label_number rows.now row.0) }
-    ensures { result ≡ is_terminating_body rows.now pairs.now bytes.now row.0 }
+#[tactic(auto, using(body::proofs::Facts::allowed, body::proofs::Facts::end_fits))]
+pub fn is_terminating(body: Body<'_>, row: RowNumber, label: NameNumber) -> bool
+    requires { (row.0 < row_count body.rows.now) × (is_statement (class body.rows.now row.0) ≡ true)
+        × (label.0 ≡ label_number body.rows.now row.0) }
+    ensures { result ≡ is_terminating_body body.entry.rows.now body.entry.pairs.now body.entry.bytes.now row.0 }
 {
-    let kind = rows::kind(rows, row);
+    let rows = body.rows;
     let first = RowNumber(row.0 + 1);
     let end = row.0 + rows::size(rows, row);
-    match kind {
-        kinds::LABELED => is_terminating(rows, pairs, bytes, first, rows::name(rows, row)),
-        kinds::EXPR => rows::detail(rows, row) == details::PANIC,
-        kinds::RETURN => true,
-        kinds::BRANCH => details::GOTO <= rows::detail(rows, row),
-        kinds::BLOCK => is_terminating_list(rows, pairs, bytes, first, end),
-        kinds::IF => {
+    match rows::kind_at(rows, row) {
+        Kind::Labeled => is_terminating(body, first, rows::name(rows, row)),
+        Kind::Expr => rows::detail(rows, row) == details::PANIC,
+        Kind::Return => true,
+        Kind::Branch => details::GOTO <= rows::detail(rows, row),
+        Kind::Block => is_terminating_list(body, first, end),
+        Kind::If => {
             if rows::detail(rows, row) == details::WITHOUT_ELSE {
                 return false;
             }
-            if !is_terminating(rows, pairs, bytes, first, NameNumber(0)) {
+            if !is_terminating(body, first, NameNumber(0)) {
                 return false;
             }
             let els = RowNumber(first.0 + rows::size(rows, first));
-            is_terminating(rows, pairs, bytes, els, NameNumber(0))
+            is_terminating(body, els, NameNumber(0))
         }
-        kinds::SWITCH => is_terminating_switch(rows, pairs, bytes, row, label, false),
-        kinds::TYPE_SWITCH => is_terminating_switch(rows, pairs, bytes, row, label, false),
-        kinds::SELECT => is_terminating_switch(rows, pairs, bytes, row, label, true),
-        kinds::FOR => {
+        Kind::Switch | Kind::TypeSwitch => is_terminating_switch(body, row, label, false),
+        Kind::Select => is_terminating_switch(body, row, label, true),
+        Kind::For => {
             if rows::detail(rows, row) == details::WITH_CONDITION {
                 return false;
             }
-            !breaks::has_break_list(rows, pairs, bytes, first, end, label, true)
+            !breaks::has_break_list(body, first, end, label, true)
         }
         _ => false,
     }
@@ -73,41 +61,35 @@ pub fn is_terminating(
 // Whether the items from `from` on, before `end`, are terminating: the last that is no Empty is.
 // Trailing empty statements are permitted.
 #[cycle(is_terminating_is_terminating_list_is_terminating_switch)]
-fn is_terminating_list(
-    rows: &[u32],
-    pairs: &[u32],
-    bytes: &[u8],
-    from: RowNumber,
-    end: usize,
-) -> bool
-    requires { Body rows.now pairs.now bytes.now × Closed rows.now from.0 end × Statements rows.now from.0 end
-        × (label_number rows.now from.0 ≡ 0) }
-    ensures { result ≡ is_terminating_list rows.now pairs.now bytes.now end from.0 }
+fn is_terminating_list(body: Body<'_>, from: RowNumber, end: usize) -> bool
+    requires { Closed body.rows.now from.0 end × Statements body.rows.now from.0 end
+        × (label_number body.rows.now from.0 ≡ 0) }
+    ensures { result ≡ is_terminating_list body.entry.rows.now body.entry.pairs.now body.entry.bytes.now end from.0 }
 {
-    match last_item(rows, from, end) {
-        Found::At(last) => is_terminating(rows, pairs, bytes, RowNumber(last), NameNumber(0)),
-        Found::Nowhere => false,
+    match last_item(body.rows, from, end) {
+        Some(last) => is_terminating(body, last, NameNumber(0)),
+        None => false,
     }
 }
 
 // The item unless it is an Empty; else the one found before it.
-fn unless_empty(rows: &[u32], item: RowNumber, found: Found) -> Found
-    requires { item.0 < row_count rows.now }
+fn unless_empty(rows: &[u32], item: RowNumber, found: Option<RowNumber>) -> Option<RowNumber>
+    requires { (item.0 < row_count rows.now) × Detailed rows.now }
     ensures { UnlessEmpty rows.now item.0 found result }
 {
-    if rows::kind(rows, item) != kinds::EMPTY {
-        return Found::At(item.0);
+    if rows::kind_at(rows, item) != Kind::Empty {
+        return Some(item);
     }
     found
 }
 
 // The last item from `from` on, before `end`, that is no Empty. Items of one row each are stepped
 // through in a loop of their own, which waits for no size.
-fn last_item(rows: &[u32], from: RowNumber, end: usize) -> Found
+fn last_item(rows: &[u32], from: RowNumber, end: usize) -> Option<RowNumber>
     requires { Sized rows.now × Detailed rows.now × OneRowEmpties rows.now × Closed rows.now from.0 end }
     ensures { Lasts rows.now from.0 end result }
 {
-    let mut last = Found::Nowhere;
+    let mut last = None;
     let mut c = from.0;
     while c < end {
         last = unless_empty(rows, RowNumber(c), last);
@@ -128,19 +110,14 @@ fn last_item(rows: &[u32], from: RowNumber, end: usize) -> Found
 // Whether every clause of the switch or Select is terminating and no break refers to it. A switch
 // needs a default, so it begins with none found; a Select needs none, so it begins with one.
 #[cycle(is_terminating_is_terminating_list_is_terminating_switch)]
-fn is_terminating_switch(
-    rows: &[u32],
-    pairs: &[u32],
-    bytes: &[u8],
-    row: RowNumber,
-    label: NameNumber,
-    found: bool,
-) -> bool
-    requires { Body rows.now pairs.now bytes.now × (row.0 < row_count rows.now)
-        × ((is_switch (class rows.now row.0) || is_class rows.now select row.0) ≡ true) × (found ≡ is_class rows.now select row.0)
-        × (label.0 ≡ label_number rows.now row.0) }
-    ensures { result ≡ is_terminating_body rows.now pairs.now bytes.now row.0 }
+#[tactic(auto, using(body::proofs::Facts::end_fits, body::proofs::Facts::some_rows))]
+fn is_terminating_switch(body: Body<'_>, row: RowNumber, label: NameNumber, found: bool) -> bool
+    requires { (row.0 < row_count body.rows.now)
+        × ((is_switch (class body.rows.now row.0) || is_class body.rows.now select row.0) ≡ true)
+        × (found ≡ is_class body.rows.now select row.0) × (label.0 ≡ label_number body.rows.now row.0) }
+    ensures { result ≡ is_terminating_body body.entry.rows.now body.entry.pairs.now body.entry.bytes.now row.0 }
 {
+    let rows = body.rows;
     let mut has_default = found;
     let end = row.0 + rows::size(rows, row);
     let mut c = row.0 + 2;
@@ -151,10 +128,10 @@ fn is_terminating_switch(
         if rows::detail(rows, clause) == details::DEFAULT {
             has_default = true;
         }
-        if !is_terminating_list(rows, pairs, bytes, first, next) {
+        if !is_terminating_list(body, first, next) {
             return false;
         }
-        if breaks::has_break_list(rows, pairs, bytes, first, next, label, true) {
+        if breaks::has_break_list(body, first, next, label, true) {
             return false;
         }
         c = next;
@@ -163,17 +140,9 @@ fn is_terminating_switch(
 }
 
 // The verdict on a well-formed body; else the refusal.
-pub fn verdict_of(rows: &[u32], pairs: &[u32], bytes: &[u8]) -> Verdict
+pub fn verdict_of(rows: &[u32], pairs: &[u32], bytes: &[u8]) -> Result<bool, Refusal>
     ensures { given result ≡ verdict_call rows.now pairs.now bytes.now }
 {
-    match body::refusal_of(rows, pairs, bytes) {
-        Checked::Refused(r) => Verdict::Refused(r),
-        Checked::WellFormed => {
-            if is_terminating(rows, pairs, bytes, RowNumber(0), NameNumber(0)) {
-                Verdict::Yes
-            } else {
-                Verdict::No
-            }
-        }
-    }
+    let body = Body::new(rows, pairs, bytes)?;
+    Ok(is_terminating(body, RowNumber(0), NameNumber(0)))
 }

@@ -16,7 +16,7 @@ use Rattle.rules.proofs.Test.{and-true}
 use Rattle.rules.proofs.Every.{every, implies, implied}
 use Rattle.rules.proofs.Details.{of-allowed, other_name}
 use Rattle.rules.proofs.Facts.{good-row}
-use Rattle.row_checks.specs.Plain.{PlainItem}
+use Rattle.row_checks.specs.Plain.{Nameless, PlainItem}
 
 plain-kind : (k d : ℕ) → detail_allowed k d ≡ true → k < 12 → (k ≡ 3 → ⊥)
     → (is_statement (class_of k d) ≡ true) × (at_least (holding (class_of k d)) ≡ 0)
@@ -36,9 +36,9 @@ module _ (w p : List ℕ) (r : ℕ) (s : size w r ≡ 1) (n : kind w r ≡ 3 →
       let t = plain-kind (kind w r) (detail w r) (good-row w p r g).detailed l n in
       record { allowed = g; one_row = s; item = t.0; leaf = t.1 }
 
-  pub plain-words : kind w r < 11 → detail_allowed (kind w r) (detail w r) ≡ true → (position w r ≡ 0 → ⊥) → name w r ≡ 0 → PlainItem w p r
+  pub plain-words : kind w r < 11 → Nameless w r → PlainItem w p r
   unfolding bad_row base
-  plain-words l a z m =
+  plain-words l (a, z, m) =
       let q : name_allowed (base w r) (count_of_pairs p) (name w r) ≡ true =
       other_name (kind w r) (detail w r) (count_of_pairs p) (name w r) a (omega arith) n (λ e. omega arith) ∙ rw m refl in
-      plain_row (omega arith) (rw (a, lt-ltb 0 (position w r) (omega arith), q, bad_row))
+      plain_row (omega arith) (rw (a, lt-ltb 0 (position w r) z, q, bad_row))

@@ -20,23 +20,19 @@ use Rattle.row_checks.proofs.RightRows.{never, Fit, leaf-fits}
 -- ---- what the code finds
 
 -- t is what `may_hold` says of the kind k of the row c
-abbrev Told : Holding → ℕ → ℕ → Bool → Type 0
-Told h i k t = (d : ℕ) → detail_allowed k d ≡ true → t ≡ may_hold h i (class_of k d)
-
-told-may : (w : List ℕ) (h : Holding) (i c : ℕ) {k : ℕ} {t : Bool} → k ≡ kind w c → Told h i k t → t ≡ true → MayBe w h i c
+pub told-may : (w : List ℕ) (h : Holding) (i c : ℕ) {k : ℕ} {t : Bool} → k ≡ kind w c
+    → ((d : ℕ) → detail_allowed k d ≡ true → t ≡ may_hold h i (class_of k d)) → t ≡ true → MayBe w h i c
 told-may w h i c e f y a = may w h i c a e f ∙ y
 
 module _ (w : List ℕ) (r : ℕ) {s : ℕ} (z : s ≡ size w r) where
-  pub one-child : (h : Holding) {n : ℕ} → n ≡ size w (r + 1) → 2 ≤ s → n ≡ s - 1 → {k : ℕ} {t : Bool} → k ≡ kind w (r + 1) → Told h 0 k t → t ≡ true
-      → OneChild w h r
-  one-child h q l m e f y =
+  pub one-child : (h : Holding) {n : ℕ} → n ≡ size w (r + 1) → 2 ≤ s → n ≡ s - 1 → MayBe w h 0 (r + 1) → OneChild w h r
+  one-child h q l m y =
       let g : size w (suc r) ≡ s - 1 = rw (← add-one r) (sym q ∙ m) in
-      record { some_rows = omega arith; fills = omega arith; may_be = rw (← add-one r) (told-may w h 0 (r + 1) e f y) }
+      record { some_rows = omega arith; fills = omega arith; may_be = rw (← add-one r) y }
 
   pub two_parts : {n : ℕ} → n ≡ size w (r + 1) → 0 < n → n < s - 1 → {m : ℕ} → m ≡ size w (r + 1 + n) → m ≡ s - 1 - n
-      → {k : ℕ} {t : Bool} → k ≡ kind w (r + 1) → Told branches 0 k t → t ≡ true
-      → {j : ℕ} {u : Bool} → j ≡ kind w (r + 1 + n) → Told branches 1 j u → u ≡ true → TwoParts w r
-  two_parts {n} q l o {m} v x e f y g b a =
+      → MayBe w branches 0 (r + 1) → MayBe w branches 1 (r + 1 + n) → TwoParts w r
+  two_parts {n} q l o {m} v x y a =
       let c : size w (suc r) ≡ n = rw (← add-one r) (sym q) in
       let i : r + 1 + n ≡ end w (suc r) = omega arith in
       let d : size w (end w (suc r)) ≡ s - 1 - n = rw (← i) (sym v ∙ x) in
@@ -44,8 +40,8 @@ module _ (w : List ℕ) (r : ℕ) {s : ℕ} (z : s ≡ size w r) where
         some_rows = omega arith;
         more_rows = omega arith;
         fills = omega arith;
-        may_be = rw (← add-one r) (told-may w branches 0 (r + 1) e f y);
-        other_may_be = rw (← i) (told-may w branches 1 (r + 1 + n) g b a);
+        may_be = rw (← add-one r) y;
+        other_may_be = rw (← i) a;
       }
 
 -- ---- that they fit

@@ -1,9 +1,11 @@
 -- What the walk finds of a row's children from their sizes and kinds, before it comes to them.
 -- Assumes nothing.
-use Rattle.std.specs.Prelude.{◌≡◌, Bool, true, false, List, ℕ, suc, ◌<◌, eqb}
+use Rattle.std.specs.Prelude.{◌≡◌, Bool, true, false, List, ℕ, suc, ◌<◌, eqb, Option, Some, None}
 use Rattle.rules.specs.Rows.{kind, detail, size, end}
 use Rattle.rules.specs.Class.{detail_allowed, base}
 use Rattle.rules.specs.Refusals.{Holding, nothing, statement, body, branches, statements, cases, comms, may_hold}
+use Rattle.rows.specs.declared.kinds.Kind.{Kind}
+use Rattle.rows.specs.Kinds.{number}
 
 -- a list stands below the row
 abbrev pub is_list : Holding → Bool
@@ -12,6 +14,11 @@ is_list h = elim h [ nothing ↦ false | statement ↦ false | body ↦ false | 
 -- the kind that each item of the list has, 0 where any statement may stand
 abbrev pub item_kind : Holding → ℕ
 item_kind h = elim h [ nothing ↦ 0 | statement ↦ 0 | body ↦ 0 | branches ↦ 0 | statements ↦ 0 | cases ↦ 14 | comms ↦ 17 ]
+
+-- the items of a list that h stands for have this kind, or may be any statement where there is none
+abbrev pub Items : Option Kind → Holding → Type 0
+Items (Some kind) h = (number kind ≡ item_kind h) × (item_kind h ≡ 0 → ⊥)
+Items None h = item_kind h ≡ 0
 
 -- how many defaults the clause c adds to those of its Block
 unfoldable pub default_count : List ℕ → ℕ → ℕ

@@ -9,35 +9,35 @@ ghost use Rattle.rules.specs.Rows.{row_count};
 ghost use Rattle.rules.specs.Class.{class_of, detail_allowed};
 ghost use Rattle.rules.specs.Names.{count_of_pairs};
 ghost use Rattle.rules.specs.Refusals.{name_allowed, bad_row};
+ghost use Rattle.rows.specs.Kinds.{number};
 
-use rows::{RowNumber, details, kinds};
+use rows::kinds::Kind;
+use rows::{RowNumber, details};
 
 // Whether there is a name of this number.
 fn is_name(pair_count: usize, name: usize) -> bool
     ensures { result ≡ (leb name pair_count && not (eqb name 0)) }
 {
-    if pair_count < name {
-        return false;
-    }
-    name != 0
+    name <= pair_count && name != 0
 }
 
 // Whether a row of this kind and detail may have this name: Labeled and goto must have one, other
 // Branches may, the rest have none.
-fn name_allowed(kind: u32, detail: u32, pair_count: usize, name: usize) -> bool
-    requires { detail_allowed kind detail ≡ true }
-    ensures { result ≡ name_allowed (class_of kind detail) pair_count name }
+fn name_allowed(kind: Kind, detail: u32, pair_count: usize, name: usize) -> bool
+    requires { detail_allowed (number kind) detail ≡ true }
+    ensures { result ≡ name_allowed (class_of (number kind) detail) pair_count name }
 {
-    if kind == kinds::LABELED {
-        return is_name(pair_count, name);
-    }
-    if kind == kinds::BRANCH {
-        if detail == details::GOTO {
-            return is_name(pair_count, name);
+    match kind {
+        Kind::Labeled => is_name(pair_count, name),
+        Kind::Branch => {
+            if detail == details::GOTO {
+                is_name(pair_count, name)
+            } else {
+                name <= pair_count
+            }
         }
-        return name <= pair_count;
+        _ => name == 0,
     }
-    name == 0
 }
 
 // Whether the row's kind, detail, position and name are allowed, where there are so many pairs.
@@ -45,14 +45,13 @@ pub fn row_allowed(rows: &[u32], pair_count: usize, row: RowNumber) -> bool
     requires { row.0 < row_count rows.now }
     ensures { (p : List ℕ) → count_of_pairs p ≡ pair_count → result ≡ not (bad_row rows.now p row.0) }
 {
-    let kind = rows::kind(rows, row);
     let detail = rows::detail(rows, row);
-    if !details::detail_allowed(kind, detail) {
+    if !details::detail_allowed(rows::kind(rows, row), detail) {
         return false;
     }
     if rows::position(rows, row) == 0 {
         return false;
     }
     let name = rows::name(rows, row);
-    name_allowed(kind, detail, pair_count, name.0)
+    name_allowed(rows::kind_at(rows, row), detail, pair_count, name.0)
 }

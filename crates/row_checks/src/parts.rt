@@ -3,11 +3,24 @@ ghost use Rattle.std.specs.Prelude.{◌≡◌, true, ℕ, ◌≤◌, ◌<◌};
 ghost use Rattle.rules.specs.Rows.{row_count, end as end_of};
 ghost use Rattle.rules.specs.Class.{detail_allowed, class_of};
 ghost use Rattle.rules.specs.Refusals.{Holding as Holds, may_hold};
+ghost use Rattle.rows.specs.Kinds.{number};
 ghost use Rattle.shape.specs.Held.{held};
-ghost use Rattle.row_checks.specs.Parts.{is_list, item_kind, default_count, OneChild, TwoParts, Parts};
+ghost use Rattle.row_checks.specs.Parts.{is_list, Items, default_count, MayBe, OneChild, TwoParts, Parts};
 
-use rows::{RowNumber, details, kinds};
+use rows::kinds::Kind;
+use rows::{RowNumber, details};
 use shape::Holding;
+
+// Whether the row may be child number i of a row that holds this.
+fn may_be_child(rows: &[u32], child: RowNumber, holding: Holding, i: usize) -> bool
+    requires { child.0 < row_count rows.now }
+    ensures { result ≡ true → MayBe rows.now (held holding) i child.0 }
+{
+    match Kind::try_from(rows::kind(rows, child)) {
+        Ok(kind) => shape::may_hold(holding, i, kind),
+        Err(_) => false,
+    }
+}
 
 // Whether the only child of the row fills it and may stand there.
 fn child_fits(rows: &[u32], row: RowNumber, holding: Holding) -> bool
@@ -22,7 +35,7 @@ fn child_fits(rows: &[u32], row: RowNumber, holding: Holding) -> bool
     if rows::size(rows, child) != size - 1 {
         return false;
     }
-    shape::may_hold(holding, 0, rows::kind(rows, child))
+    may_be_child(rows, child, holding, 0)
 }
 
 // The same of the two parts of an If with else.
@@ -35,7 +48,7 @@ fn branches_fit(rows: &[u32], row: RowNumber) -> bool
         return false;
     }
     let body = RowNumber(row.0 + 1);
-    if !shape::may_hold(Holding::Branches, 0, rows::kind(rows, body)) {
+    if !may_be_child(rows, body, Holding::Branches, 0) {
         return false;
     }
     let first = rows::size(rows, body);
@@ -49,7 +62,7 @@ fn branches_fit(rows: &[u32], row: RowNumber) -> bool
     if rows::size(rows, other) != size - 1 - first {
         return false;
     }
-    shape::may_hold(Holding::Branches, 1, rows::kind(rows, other))
+    may_be_child(rows, other, Holding::Branches, 1)
 }
 
 // The same of the children of a row that holds no list.
@@ -58,8 +71,7 @@ pub fn parts_fit(rows: &[u32], row: RowNumber, holding: Holding) -> bool
     ensures { result ≡ true → Parts rows.now (held holding) row.0 }
 {
     match holding {
-        Holding::Statement => child_fits(rows, row, holding),
-        Holding::Body => child_fits(rows, row, holding),
+        Holding::Statement | Holding::Body => child_fits(rows, row, holding),
         Holding::Branches => branches_fit(rows, row),
         _ => rows::size(rows, row) == 1,
     }
@@ -68,36 +80,31 @@ pub fn parts_fit(rows: &[u32], row: RowNumber, holding: Holding) -> bool
 pub fn holds_list(holding: Holding) -> bool
     ensures { result ≡ is_list (held holding) }
 {
-    match holding {
-        Holding::Statements => true,
-        Holding::Cases => true,
-        Holding::Comms => true,
-        _ => false,
-    }
+    matches!(
+        holding,
+        Holding::Statements | Holding::Cases | Holding::Comms
+    )
 }
 
-// The kind that each item of the list has: Case or Comm, or 0 where any statement may stand.
-pub fn item_kind(holding: Holding) -> u32
-    ensures { result ≡ item_kind (held holding) }
+// The kind that each item of the list has, Case or Comm; none where any statement may stand.
+pub fn item_kind(holding: Holding) -> Option<Kind>
+    ensures { Items result (held holding) }
 {
     match holding {
-        Holding::Cases => kinds::CASE,
-        Holding::Comms => kinds::COMM,
-        _ => 0,
+        Holding::Cases => Some(Kind::Case),
+        Holding::Comms => Some(Kind::Comm),
+        _ => None,
     }
 }
 
 // Whether a row of this kind may be an item of a list whose items have the kind `items`.
-pub fn may_be_item(items: u32, kind: u32) -> bool
-    ensures { (h : Holds) (d : ℕ) → is_list h ≡ true → items ≡ item_kind h → detail_allowed kind d ≡ true → result ≡ may_hold h 0 (class_of kind d) }
+pub fn may_be_item(items: Option<Kind>, kind: Kind) -> bool
+    ensures { (h : Holds) (d : ℕ) → is_list h ≡ true → Items items h → detail_allowed (number kind) d ≡ true → result ≡ may_hold h 0 (class_of (number kind) d) }
 {
-    if items != 0 {
-        return kind == items;
+    match items {
+        Some(clause) => kind == clause,
+        None => kind.is_statement(),
     }
-    if kind == kinds::CASE {
-        return false;
-    }
-    kind != kinds::COMM
 }
 
 // 1 for a clause that is the default, 0 for another.
@@ -105,8 +112,5 @@ pub fn count_default(rows: &[u32], clause: RowNumber) -> usize
     requires { clause.0 < row_count rows.now }
     ensures { result ≡ default_count rows.now clause.0 }
 {
-    if rows::detail(rows, clause) == details::DEFAULT {
-        return 1;
-    }
-    0
+    usize::from(rows::detail(rows, clause) == details::DEFAULT)
 }

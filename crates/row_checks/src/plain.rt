@@ -3,10 +3,46 @@
 ghost use Rattle.std.specs.Prelude.{◌≡◌, true, List, ℕ, ◌≤◌, ◌<◌};
 ghost use Rattle.rules.specs.Rows.{row_count};
 ghost use Rattle.rules.specs.Names.{count_of_pairs};
-ghost use Rattle.row_checks.specs.Plain.{PlainItem, PlainItems};
+ghost use Rattle.rows.specs.Kinds.{number};
+ghost use Rattle.row_checks.specs.Plain.{Nameless, PlainItem, PlainItems};
 
 use crate::row_allowed;
-use rows::{RowNumber, details, kinds};
+use rows::kinds::Kind;
+use rows::{RowNumber, details};
+
+// Whether nothing stands below a row of this kind, and it has no name.
+fn is_nameless(kind: Kind) -> bool
+    ensures { result ≡ true → (number kind < 11) × (number kind ≡ 3 → ⊥) }
+{
+    matches!(
+        kind,
+        Kind::Bad
+            | Kind::Decl
+            | Kind::Empty
+            | Kind::Expr
+            | Kind::Send
+            | Kind::IncDec
+            | Kind::Assign
+            | Kind::Go
+            | Kind::Defer
+            | Kind::Return
+    )
+}
+
+// Whether the words of a row are as they have to be of a kind that has no name; this takes fewer tests
+// than `row_allowed`.
+fn nameless_allowed(rows: &[u32], row: RowNumber) -> bool
+    requires { row.0 < row_count rows.now }
+    ensures { result ≡ true → Nameless rows.now row.0 }
+{
+    if !details::detail_allowed(rows::kind(rows, row), rows::detail(rows, row)) {
+        return false;
+    }
+    if rows::position(rows, row) == 0 {
+        return false;
+    }
+    rows::name_word(rows, row) == 0
+}
 
 // Whether the row is such an item, and its words are as they have to be.
 fn plain_item(rows: &[u32], pair_count: usize, row: RowNumber) -> bool
@@ -16,24 +52,11 @@ fn plain_item(rows: &[u32], pair_count: usize, row: RowNumber) -> bool
     if rows::size(rows, row) != 1 {
         return false;
     }
-    let kind = rows::kind(rows, row);
-    if kind == kinds::LABELED {
-        return false;
+    match Kind::try_from(rows::kind(rows, row)) {
+        Ok(Kind::Branch) => row_allowed(rows, pair_count, row),
+        Ok(kind) => is_nameless(kind) && nameless_allowed(rows, row),
+        Err(_) => false,
     }
-    if kind < kinds::BRANCH {
-        // none has a name, which takes fewer tests than `row_allowed`
-        if !details::detail_allowed(kind, rows::detail(rows, row)) {
-            return false;
-        }
-        if rows::position(rows, row) == 0 {
-            return false;
-        }
-        return rows::name_word(rows, row) == 0;
-    }
-    if kind != kinds::BRANCH {
-        return false;
-    }
-    row_allowed(rows, pair_count, row)
 }
 
 // The first row from `from` on, before `end`, that is no such item.
@@ -41,12 +64,10 @@ pub fn end_of_items(rows: &[u32], pair_count: usize, from: usize, end: usize) ->
     requires { (from ≤ end) × (end ≤ row_count rows.now) }
     ensures { (p : List ℕ) → count_of_pairs p ≡ pair_count → PlainItems rows.now p from result end }
 {
-    let mut c = from;
-    while c < end {
-        if !plain_item(rows, pair_count, RowNumber(c)) {
-            return c;
+    for r in from..end {
+        if !plain_item(rows, pair_count, RowNumber(r)) {
+            return r;
         }
-        c += 1;
     }
-    c
+    end
 }

@@ -48,12 +48,6 @@ const DETAILS: [u8; 21] = [
     0b0001, // Range
 ];
 
-fn wide(entry: u8) -> u32
-    ensures { result ≡ entry }
-{
-    entry as u32
-}
-
 // Whether a row of this kind may have this detail.
 pub fn detail_allowed(kind: u32, detail: u32) -> bool
     ensures { result ≡ detail_allowed kind detail }
@@ -62,7 +56,7 @@ pub fn detail_allowed(kind: u32, detail: u32) -> bool
         return false; // past the table
     }
     let k = kind as usize;
-    let byte = wide(DETAILS[k]);
+    let byte = u32::from(DETAILS[k]);
     if 8 <= detail {
         return false; // past the byte
     }

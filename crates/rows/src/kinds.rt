@@ -1,69 +1,131 @@
 // The 21 kinds, and which of them a break and a continue need.
 ghost use Rattle.std.specs.Prelude.{◌≡◌, true, ℕ};
-ghost use Rattle.rules.specs.Class.{is_loop, is_breakable, detail_allowed, class_of};
+ghost use Rattle.rules.specs.Class.{is_loop, is_breakable, is_statement, detail_allowed, class_of};
+ghost use Rattle.rules.specs.Scope.{holds_items};
+ghost use Rattle.rows.specs.Kinds.{number, Numbers};
 
-pub const BAD: u32 = 0;
-
-pub const DECL: u32 = 1;
-
-pub const EMPTY: u32 = 2;
-
-pub const LABELED: u32 = 3;
-
-pub const EXPR: u32 = 4;
-
-pub const SEND: u32 = 5;
-
-pub const INC_DEC: u32 = 6;
-
-pub const ASSIGN: u32 = 7;
-
-pub const GO: u32 = 8;
-
-pub const DEFER: u32 = 9;
-
-pub const RETURN: u32 = 10;
-
-pub const BRANCH: u32 = 11;
-
-pub const BLOCK: u32 = 12;
-
-pub const IF: u32 = 13;
-
-pub const CASE: u32 = 14;
-
-pub const SWITCH: u32 = 15;
-
-pub const TYPE_SWITCH: u32 = 16;
-
-pub const COMM: u32 = 17;
-
-pub const SELECT: u32 = 18;
-
-pub const FOR: u32 = 19;
-
-pub const RANGE: u32 = 20;
-
-// Kinds 19 and 20, which a continue needs.
-pub fn is_loop(kind: u32) -> bool
-    ensures { (d : ℕ) → detail_allowed kind d ≡ true → result ≡ is_loop (class_of kind d) }
-{
-    if kind == FOR {
-        return true;
-    }
-    kind == RANGE
+// The kind of a row, after goscript's enum `Stmt`.
+#[derive(Clone, Copy, Debug, PartialEq, Eq)]
+pub enum Kind {
+    Bad,
+    Decl,
+    Empty,
+    Labeled,
+    Expr,
+    Send,
+    IncDec,
+    Assign,
+    Go,
+    Defer,
+    Return,
+    Branch,
+    Block,
+    If,
+    Case,
+    Switch,
+    TypeSwitch,
+    Comm,
+    Select,
+    For,
+    Range,
 }
 
-// Kinds 15, 16, 18, 19 and 20, which a break needs.
-pub fn is_breakable(kind: u32) -> bool
-    ensures { (d : ℕ) → detail_allowed kind d ≡ true → result ≡ is_breakable (class_of kind d) }
-{
-    match kind {
-        SWITCH => true,
-        TYPE_SWITCH => true,
-        SELECT => true,
-        FOR => true,
-        RANGE => true,
-        _ => false,
+// A word that is the number of no kind.
+#[derive(Clone, Copy, Debug, PartialEq, Eq)]
+pub struct NoKind;
+
+impl TryFrom<u32> for Kind {
+    type Error = NoKind;
+
+    ghost try_from_gives = { Numbers };
+
+    fn try_from(word: u32) -> Result<Self, NoKind> {
+        match word {
+            0 => Ok(Kind::Bad),
+            1 => Ok(Kind::Decl),
+            2 => Ok(Kind::Empty),
+            3 => Ok(Kind::Labeled),
+            4 => Ok(Kind::Expr),
+            5 => Ok(Kind::Send),
+            6 => Ok(Kind::IncDec),
+            7 => Ok(Kind::Assign),
+            8 => Ok(Kind::Go),
+            9 => Ok(Kind::Defer),
+            10 => Ok(Kind::Return),
+            11 => Ok(Kind::Branch),
+            12 => Ok(Kind::Block),
+            13 => Ok(Kind::If),
+            14 => Ok(Kind::Case),
+            15 => Ok(Kind::Switch),
+            16 => Ok(Kind::TypeSwitch),
+            17 => Ok(Kind::Comm),
+            18 => Ok(Kind::Select),
+            19 => Ok(Kind::For),
+            20 => Ok(Kind::Range),
+            _ => Err(NoKind),
+        }
+    }
+}
+
+impl From<Kind> for u32 {
+    ghost from_gives = { λ kind word. word ≡ number kind };
+
+    fn from(kind: Kind) -> u32 {
+        match kind {
+            Kind::Bad => 0,
+            Kind::Decl => 1,
+            Kind::Empty => 2,
+            Kind::Labeled => 3,
+            Kind::Expr => 4,
+            Kind::Send => 5,
+            Kind::IncDec => 6,
+            Kind::Assign => 7,
+            Kind::Go => 8,
+            Kind::Defer => 9,
+            Kind::Return => 10,
+            Kind::Branch => 11,
+            Kind::Block => 12,
+            Kind::If => 13,
+            Kind::Case => 14,
+            Kind::Switch => 15,
+            Kind::TypeSwitch => 16,
+            Kind::Comm => 17,
+            Kind::Select => 18,
+            Kind::For => 19,
+            Kind::Range => 20,
+        }
+    }
+}
+
+impl Kind {
+    // Kinds 19 and 20, which a continue needs.
+    pub fn is_loop(self) -> bool
+        ensures { (d : ℕ) → detail_allowed (number self) d ≡ true → result ≡ is_loop (class_of (number self) d) }
+    {
+        matches!(self, Kind::For | Kind::Range)
+    }
+
+    // Kinds 15, 16, 18, 19 and 20, which a break needs.
+    pub fn is_breakable(self) -> bool
+        ensures { (d : ℕ) → detail_allowed (number self) d ≡ true → result ≡ is_breakable (class_of (number self) d) }
+    {
+        matches!(
+            self,
+            Kind::Switch | Kind::TypeSwitch | Kind::Select | Kind::For | Kind::Range
+        )
+    }
+
+    // Whether a row of this kind may be an item of a list: no Case and no Comm.
+    pub fn is_statement(self) -> bool
+        ensures { (d : ℕ) → detail_allowed (number self) d ≡ true → result ≡ is_statement (class_of (number self) d) }
+    {
+        !matches!(self, Kind::Case | Kind::Comm)
+    }
+
+    // Whether a row of this kind holds items: Block, Case or Comm.
+    pub fn holds_items(self) -> bool
+        ensures { (d : ℕ) → detail_allowed (number self) d ≡ true → result ≡ holds_items (class_of (number self) d) }
+    {
+        matches!(self, Kind::Block | Kind::Case | Kind::Comm)
     }
 }

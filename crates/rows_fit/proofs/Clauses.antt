@@ -1,8 +1,8 @@
 -- The defaults among the clauses of the list r, as the walk stands at the row c: n counts those before c. With n at 0 none of them is a default, and with n at
 -- most 1 none is a second one. A child of r that begins before the end of c is before c, or c, so a turn needs no more than the clause c itself.
--- Where the items are no clauses (their kind i is 0) nothing is counted.
+-- Where the items are no clauses nothing is counted.
 -- Assumes nothing.
-use mathlib.Core.Path.{◌≡◌, sym, ◌∙◌, subst}
+use mathlib.Core.Path.{◌≡◌, ◌∙◌, subst}
 use mathlib.Core.Bool.{true, false}
 use mathlib.Core.List.{List, [], ◌∷◌}
 use mathlib.Core.Logic.{◌⊎◌, ⊎_elim}
@@ -37,24 +37,29 @@ unfolding default_count
 counts-few w c = case-of (eqb (detail w c) 1) (λ t. rw (t, default_count) (omega arith)) (λ t. rw (t, default_count) (omega arith))
 
 -- ---- the clauses before c
+
+-- the items of the list r have no kind of their own
+abbrev NoClauses : List ℕ → ℕ → Type 0
+NoClauses w r = item_kind (holding (class w r)) ≡ 0
+
 pub record Clauses (w : List ℕ) (r c n : ℕ) : Type 0 where
   pub at : c < end w r → Child w r c
   pub none : n ≡ 0 → (k : ℕ) → Child w r k → k < c → is_default (base w k) ≡ false
   pub one : n ≤ 1 → (k : ℕ) → SecondChild w r k → k < c → ⊥
 
-pub record Counted (w : List ℕ) (r i c n : ℕ) : Type 0 where
+pub record Counted (w : List ℕ) (r c n : ℕ) : Type 0 where
   pub few : n ≤ c
-  pub clauses : (i ≡ 0 → ⊥) → Clauses w r c n
+  pub clauses : (NoClauses w r → ⊥) → Clauses w r c n
 
 -- the same, said of the row b after r
-abbrev pub CountedFrom : List ℕ → ℕ → ℕ → ℕ → ℕ → Type 0
-CountedFrom w i b c n = (r : ℕ) → b ≡ r + 1 → Counted w r i c n
+abbrev pub CountedFrom : List ℕ → ℕ → ℕ → ℕ → Type 0
+CountedFrom w b c n = (r : ℕ) → b ≡ r + 1 → Counted w r c n
 
-pub count-first : {w : List ℕ} {r i c n : ℕ} → Counted w r i c n → CountedFrom w i (r + 1) c n
-count-first {w} {r} {i} {c} {n} a q z = let y : r ≡ q = omega arith in subst (λ (x : ℕ). Counted w x i c n) y a
+pub count-first : {w : List ℕ} {r c n : ℕ} → Counted w r c n → CountedFrom w (r + 1) c n
+count-first {w} {r} {c} {n} a q z = let y : r ≡ q = omega arith in subst (λ (x : ℕ). Counted w x c n) y a
 
-pub counts-none : (w : List ℕ) (r i : ℕ) → Counted w r i (r + 1) 0
-counts-none w r i =
+pub counts-none : (w : List ℕ) (r : ℕ) → Counted w r (r + 1) 0
+counts-none w r =
     record {
       few = omega arith;
       clauses = λ h. record {
@@ -68,7 +73,7 @@ counts-none w r i =
 
 -- from c, with n counted, to the item y, with m counted: past a run of items that are no clauses, or at the clause c, which is counted too
 abbrev pub Turned : List ℕ → ℕ → ℕ → ℕ → ℕ → ℕ → Type 0
-Turned w i c n y m = ((i ≡ 0) × (c ≤ y) × (m ≡ n)) ⊎ ((i ≡ 0 → ⊥) × (y ≡ c) × (m ≡ n + default_count w c))
+Turned w r c n y m = (NoClauses w r × (c ≤ y) × (m ≡ n)) ⊎ ((NoClauses w r → ⊥) × (y ≡ c) × (m ≡ n + default_count w c))
 
 module _ {w : List ℕ} {r c n : ℕ} (a : Clauses w r c n) (l : c < end w r) (ok : detail_allowed (kind w c) (detail w c) ≡ true) where
   -- a child before the end of c is before c, or c
@@ -99,27 +104,27 @@ module _ {w : List ℕ} {r c n : ℕ} (a : Clauses w r c n) (l : c < end w r) (o
       ]
 
 -- past the item y, whose detail is allowed
-pub counts_past : {w : List ℕ} {r i c n y m s : ℕ} → Counted w r i c n → Turned w i c n y m → y < end w r → detail_allowed (kind w y) (detail w y) ≡ true
-    → s ≡ size w y → 0 < s → Counted w r i (y + s) m
-counts_past {w} {r} {i} {c} {n} {y} {m} {s} a t l ok e z = record { few = few; clauses = clauses }
+pub counts_past : {w : List ℕ} {r c n y m s : ℕ} → Counted w r c n → Turned w r c n y m → y < end w r → detail_allowed (kind w y) (detail w y) ≡ true
+    → s ≡ size w y → 0 < s → Counted w r (y + s) m
+counts_past {w} {r} {c} {n} {y} {m} {s} a t l ok e z = record { few = few; clauses = clauses }
   where
     few : m ≤ y + s
-    few = ⊎_elim (λ (x : (i ≡ 0) × (c ≤ y) × (m ≡ n)). omega (arith, a.few))
-        (λ (x : (i ≡ 0 → ⊥) × (y ≡ c) × (m ≡ n + default_count w c)). omega (arith, a.few, counts-few w c)) t
+    few = ⊎_elim (λ (x : NoClauses w r × (c ≤ y) × (m ≡ n)). omega (arith, a.few))
+        (λ (x : (NoClauses w r → ⊥) × (y ≡ c) × (m ≡ n + default_count w c)). omega (arith, a.few, counts-few w c)) t
 
-    clauses : (i ≡ 0 → ⊥) → Clauses w r (y + s) m
-    clauses h = ⊎_elim (λ (x : (i ≡ 0) × (c ≤ y) × (m ≡ n)). absurd (h x.0))
-        (λ (x : (i ≡ 0 → ⊥) × (y ≡ c) × (m ≡ n + default_count w c)).
+    clauses : (NoClauses w r → ⊥) → Clauses w r (y + s) m
+    clauses h = ⊎_elim (λ (x : NoClauses w r × (c ≤ y) × (m ≡ n)). absurd (h x.0))
+        (λ (x : (NoClauses w r → ⊥) × (y ≡ c) × (m ≡ n + default_count w c)).
         rw (e, x.2, x.1) (past-clause (a.clauses h) (rw (← x.1) l) (rw (← x.1) ok))) t
 
 -- with no item left after a run
-pub counts-run : {w : List ℕ} {r i c n y m e : ℕ} → Counted w r i c n → Turned w i c n y m → c < e → e ≤ y → Counted w r i y m
-counts-run {w} {i = i} {c} {n} {y} {m} a t l g =
-    ⊎_elim (λ (x : (i ≡ 0) × (c ≤ y) × (m ≡ n)). record { few = omega (arith, a.few); clauses = λ h. absurd (h x.0) })
-    (λ (x : (i ≡ 0 → ⊥) × (y ≡ c) × (m ≡ n + default_count w c)). absurd (omega arith)) t
+pub counts-run : {w : List ℕ} {r c n y m e : ℕ} → Counted w r c n → Turned w r c n y m → c < e → e ≤ y → Counted w r y m
+counts-run {w} {r} {c} {n} {y} {m} a t l g =
+    ⊎_elim (λ (x : NoClauses w r × (c ≤ y) × (m ≡ n)). record { few = omega (arith, a.few); clauses = λ h. absurd (h x.0) })
+    (λ (x : (NoClauses w r → ⊥) × (y ≡ c) × (m ≡ n + default_count w c)). absurd (omega arith)) t
 
 -- ---- with no clause left
-pub counts-one : {w : List ℕ} {r i c n : ℕ} → Counted w r i c n → end w r ≤ c → n ≤ 1 → i ≡ item_kind (holding (class w r)) → Single w r
-counts-one a l e q h k s =
-    let b = a.clauses (λ z. h (sym q ∙ z)) in
+pub counts-one : {w : List ℕ} {r c n : ℕ} → Counted w r c n → end w r ≤ c → n ≤ 1 → Single w r
+counts-one a l e h k s =
+    let b = a.clauses h in
     b.one e k s (omega (arith, item-before s.child))

@@ -7,10 +7,11 @@ use mathlib.Core.Path.{◌≡◌, refl, sym, ◌∙◌, subst}
 use mathlib.Core.Bool.{true, false}
 use mathlib.Core.List.{List, [], ◌∷◌}
 use mathlib.Core.Logic.{◌⊎◌, inl, inr, ⊎_elim}
-use Prim.Native.Nat.{ℕ, suc, ◌+◌, ◌-◌, ◌*◌, ◌≤◌, ◌<◌}
+use Prim.Native.Nat.{ℕ, suc, ◌+◌, ◌*◌, ◌≤◌, ◌<◌}
 use native.Mathlib.Omega.{arith}
 use native.Mathlib.Numerals.{add-one}
 use native.Mathlib.Decide.{ℕ_discrete, dec_lt}
+use Rattle.std.specs.Prelude.{Option}
 use Rattle.rules.specs.Scan.{lowest}
 use Rattle.rules.specs.Rows.{row_count, kind, detail, size, end, depth}
 use Rattle.rules.specs.Class.{Class, block, one_of, detail_allowed, base, following, class}
@@ -18,7 +19,8 @@ use Rattle.rules.specs.Refusals.{Holding, nothing, statement, body, branches, st
 use Rattle.rules.proofs.Every.{every, of-classes, implies, implied}
 use Rattle.rules.proofs.Facts.{good-row}
 use Rattle.shape.specs.DetailedTo.{DetailedTo}
-use Rattle.row_checks.specs.Parts.{is_list, item_kind, TwoParts, Parts}
+use Rattle.rows.specs.declared.kinds.Kind.{Kind}
+use Rattle.row_checks.specs.Parts.{is_list, item_kind, Items, TwoParts, Parts}
 use Rattle.row_checks.specs.Right.{Single, Right, RightBelow, Met}
 use Rattle.rows_fit.proofs.Deeper.{deeper}
 use Rattle.row_checks.proofs.RightRows.{never, right-size, right-shape, shape-right, Fit}
@@ -84,17 +86,6 @@ pub record Statement-at (w : List ℕ) (b s g : ℕ) : Type 0 where
   pub later : 0 < b
   pub size_is : s ≡ size w b
 
-pub sets-out : {w : List ℕ} (p : List ℕ) {b s g : ℕ} → Statement-at w b s g → Going w p b (b + s) b g
-sets-out p a =
-    let z = a.size_is in
-    record {
-      low = omega arith;
-      high = omega arith;
-      room = omega (arith, a.met.deepest);
-      seen = record { allowed = λ k l m. absurd (omega arith); inside = λ k l m. absurd (omega arith); right = λ o k l m. absurd (omega arith) };
-      next = λ l. record { some_rows = a.met.some_rows; within = omega arith; shallow = a.met.shallow; after = inl (omega arith) };
-    }
-
 -- with no row left
 pub goes_through : {w p : List ℕ} {b s g : ℕ} → Statement-at w b s g → {c d : ℕ} → Going w p b (b + s) c d → b + s ≤ c → Right w p b × RightBelow w p b
 goes_through {w} {p} {b} {s} a {c} o l =
@@ -146,12 +137,12 @@ module _ {w p : List ℕ} {b s g c d : ℕ} (a : Turn w p b s g c d) where
   row-known = (in_rows.0, details-to)
 
   -- a list has at most as many rows as the statement
-  pub list-call : {t : ℕ} → 2 * size w b + 1 ≡ t → {h : Holding} → h ≡ holding (class w c) → is_list h ≡ true → {i : ℕ} → i ≡ item_kind h
-      → (2 * size w c < t) × (Met w c d × DetailedTo w c × (is_list (holding (class w c)) ≡ true) × (i ≡ item_kind (holding (class w c))))
-  list-call q e y k =
+  pub list-call : {t : ℕ} → 2 * size w b + 1 ≡ t → {h : Holding} → h ≡ holding (class w c) → is_list h ≡ true → (i : Option Kind) → Items i h
+      → (2 * size w c < t) × (Met w c d × DetailedTo w c × (is_list (holding (class w c)) ≡ true) × Items i (holding (class w c)))
+  list-call q e y i k =
       let z = a.start.size_is in
       let l = a.going.low in
-      (omega (arith, here.within), (row-met, details-to, rw (← e) y, rw (← e) k))
+      (omega (arith, here.within), (row-met, details-to, rw (← e) y, subst (Items i) e k))
     where
       row-met : Met w c d
       row-met =
@@ -228,9 +219,6 @@ module _ {w p : List ℕ} {b s g c d : ℕ} (a : Turn w p b s g c d) where
           seen = list-seen;
           next = λ n. ⊎_elim (λ (e : end w c ≡ b + s). absurd (omega arith)) other-next here.after;
         }
-
-  pub list-falls : {n : ℕ} → n ≡ size w c → (b + s) - (c + n) < (b + s) - c
-  list-falls y = let l = a.left in omega (arith, here.some_rows)
 
   -- ---- past a row that holds no list, to its first child
   module _ {h : Holding} (e : h ≡ holding (class w c)) (n : is_list h ≡ false) (v : Parts w h c) where

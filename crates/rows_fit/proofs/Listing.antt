@@ -2,20 +2,23 @@
 -- seen, so its details are allowed, and ends at or before c; so c is at most one deeper than r. What may be an item doesn't depend on its number.
 -- Assumes nothing.
 use mathlib.Core.Path.{◌≡◌, refl, sym, ◌∙◌, subst}
-use mathlib.Core.Bool.{Bool, true}
+use mathlib.Core.Bool.{Bool, true, false}
 use mathlib.Core.List.{List}
 use Prim.Native.Nat.{ℕ, zero, suc, ◌+◌, ◌-◌, ◌*◌, ◌≤◌, ◌<◌}
 use native.Mathlib.Omega.{arith}
 use native.Mathlib.Decide.{ℕ_discrete, dec_lt}
 use borrow.Author.Tests.{le-leb}
-use Rattle.rules.specs.Rows.{row_count, kind, detail, size, end, depth}
+use Rattle.std.specs.Prelude.{Option, Some, None}
+use Rattle.std.specs.Option.{is_some}
+use Rattle.rules.specs.Rows.{kind, detail, size, end, depth}
 use Rattle.rules.specs.Class.{Class, is_statement, detail_allowed, class_of, base, class}
 use Rattle.rules.specs.Refusals.{Holding, nothing, statement, body, branches, statements, cases, comms, holding, may_hold, at_least}
 use Rattle.rules.proofs.Facts.{good-row}
 use Rattle.shape.specs.DetailedTo.{DetailedTo}
 use Rattle.shape.proofs.Stepping.{may, Walk, begin, ended, next}
+use Rattle.rows.specs.declared.kinds.Kind.{Kind}
 use Rattle.row_checks.specs.Plain.{PlainItem, PlainItems}
-use Rattle.row_checks.specs.Parts.{is_list, item_kind}
+use Rattle.row_checks.specs.Parts.{is_list, item_kind, Items}
 use Rattle.row_checks.specs.Right.{Single, Right, RightBelow, Met}
 use Rattle.rows_fit.proofs.Deeper.{deeper}
 use Rattle.row_checks.proofs.RightRows.{never, right-size, right-shape, class-needs, leaf-below}
@@ -38,6 +41,15 @@ list-needs branches l = never l
 list-needs statements l = refl
 list-needs cases l = refl
 list-needs comms l = refl
+
+-- whether the items have a kind of their own, as the code tests it
+pub has-none : (i : Option Kind) (h : Holding) → Items i h → is_some i ≡ false → item_kind h ≡ 0
+has-none (Some k) h e f = never (sym f)
+has-none None h e f = e
+
+pub has-one : (i : Option Kind) (h : Holding) → Items i h → is_some i ≡ true → item_kind h ≡ 0 → ⊥
+has-one (Some k) h e t = e.1
+has-one None h e t = never t
 
 -- a list without items
 pub no_items : (w p : List ℕ) (r : ℕ) {s : ℕ} → s ≡ size w r → is_list (holding (class w r)) ≡ true → r + s ≡ r + 1 → RightBelow w p r
@@ -65,9 +77,6 @@ pub record Listed (w p : List ℕ) (r e c : ℕ) : Type 0 where
   pub passed : Passed w p (r + 1) c
 
 module _ {w p : List ℕ} {r e c : ℕ} (o : Listed w p r e c) where
-  pub stands-in : (c ≤ e) × (e ≤ row_count w)
-  stands-in = (o.walk.high, o.walk.within)
-
   item-depth : depth w c ≤ suc (depth w r)
   item-depth = let m = o.walk.low in deeper w r c (omega arith) (λ k u v. o.passed.inside k (omega arith) v)
 
@@ -176,13 +185,11 @@ module _ {w p : List ℕ} {r s d c n : ℕ} (a : Item_at w p r s d c n) where
             ]
       ]
 
-  -- t is what `may_be_item` says of the kind k, with the kind i of the items
-  pub past-item : {i k : ℕ} {t : Bool} → i ≡ item_kind (holding (class w r)) → k ≡ kind w c
-      → ((h : Holding) (d : ℕ) → is_list h ≡ true → i ≡ item_kind h → detail_allowed k d ≡ true → t ≡ may_hold h 0 (class_of k d)) → t ≡ true
+  -- t is what `may_be_item` says of the kind k
+  pub past-item : {k : ℕ} {t : Bool} → k ≡ kind w c
+      → ((d : ℕ) → detail_allowed k d ≡ true → t ≡ may_hold (holding (class w r)) 0 (class_of k d)) → t ≡ true
       → Right w p c × RightBelow w p c → Listed w p r (r + s) (c + n)
-  past-item q e f y u =
-      past
-      (may w (holding (class w r)) 0 c (good-row w p c u.0.allowed).detailed e (λ d. f (holding (class w r)) d a.list.list q) ∙ y) u
+  past-item e f y u = past (may w (holding (class w r)) 0 c (good-row w p c u.0.allowed).detailed e f ∙ y) u
 
 -- ---- plain items
 
@@ -215,11 +222,11 @@ plain-run {w} {p} {r} {s} a q z {c} o (suc m) f l =
     rw e (past-plain a q z b (omega arith) g)
 
 -- c is what the walk came to, and y where the next item is: after such a run, or at c itself
-pub to_item : {w p : List ℕ} {r s d : ℕ} (a : List-at w r s d) → d < 100 → {n : ℕ} → n ≡ item_kind (holding (class w r)) → n ≡ 0 → {c x : ℕ}
+pub to_item : {w p : List ℕ} {r s d : ℕ} (a : List-at w r s d) → d < 100 → item_kind (holding (class w r)) ≡ 0 → {c x : ℕ}
     → Listed w p r (r + s) c → PlainItems w p c x (r + s) → {y : ℕ} → y ≡ x → (c ≤ y) × Listed w p r (r + s) y
-to_item {w} {p} {r} {s} a q i z {c} {x} o b e =
+to_item {w} {p} {r} {s} a q z {c} {x} o b e =
     let f : c + (x - c) ≡ x = omega (arith, b.low) in
-    let g = plain-run a q (sym i ∙ z) o (x - c) (λ k u v. b.plain k u (omega arith)) (omega (arith, b.high)) in
+    let g = plain-run a q z o (x - c) (λ k u v. b.plain k u (omega arith)) (omega (arith, b.high)) in
     rw e (b.low, subst (Listed w p r (r + s)) f g)
 
 pub at_item : {w p : List ℕ} {r e c : ℕ} → Listed w p r e c → {y : ℕ} → y ≡ c → (c ≤ y) × Listed w p r e y

@@ -9,12 +9,13 @@ ghost use Rattle.rules.specs.Names.{count_of_pairs};
 ghost use Rattle.rules.specs.Refusals.{holding as holding_of};
 ghost use Rattle.shape.specs.DetailedTo.{DetailedTo};
 ghost use Rattle.row_checks.specs.Right.{Right, RightBelow, Met};
-ghost use Rattle.row_checks.specs.Parts.{is_list, item_kind};
+ghost use Rattle.row_checks.specs.Parts.{is_list, Items};
 
 use row_checks::parts::{count_default, holds_list, item_kind, may_be_item, parts_fit};
 use row_checks::plain::end_of_items;
 use row_checks::row_allowed;
 use rows::RowNumber;
+use rows::kinds::Kind;
 
 // Whether none of the causes 4, 5, 10 and 6 applies to the statement, which is so deep, and to the
 // rows below it. A row whose only child fills it is followed by that child; only lists take a call.
@@ -55,9 +56,15 @@ fn statement_fits(rows: &[u32], pair_count: usize, row: RowNumber, depth: usize)
 // The same of the rows below a list, which is so deep and whose items have this kind. Plain items are
 // passed in runs, and of clauses at most one is the default.
 #[cycle(list_fits_statement_fits)]
-fn list_fits(rows: &[u32], pair_count: usize, row: RowNumber, depth: usize, items: u32) -> bool
+fn list_fits(
+    rows: &[u32],
+    pair_count: usize,
+    row: RowNumber,
+    depth: usize,
+    items: Option<Kind>,
+) -> bool
     requires { Met rows.now row.0 depth × DetailedTo rows.now row.0 × (is_list (holding_of (class rows.now row.0)) ≡ true)
-        × (items ≡ item_kind (holding_of (class rows.now row.0))) }
+        × Items items (holding_of (class rows.now row.0)) }
     ensures { result ≡ true → (p : List ℕ) → count_of_pairs p ≡ pair_count → RightBelow rows.now p row.0 }
 {
     let end = row.0 + rows::size(rows, row);
@@ -67,14 +74,17 @@ fn list_fits(rows: &[u32], pair_count: usize, row: RowNumber, depth: usize, item
     let mut c = row.0 + 1;
     let mut defaults = 0;
     while c < end {
-        if items == 0 {
+        if items.is_none() {
             c = end_of_items(rows, pair_count, c, end);
         } else {
             defaults += count_default(rows, RowNumber(c));
         }
         if c < end {
             let item = RowNumber(c);
-            if !may_be_item(items, rows::kind(rows, item)) {
+            let Ok(kind) = Kind::try_from(rows::kind(rows, item)) else {
+                return false;
+            };
+            if !may_be_item(items, kind) {
                 return false;
             }
             let size = rows::size(rows, item);
@@ -106,5 +116,5 @@ pub fn well_formed_rows(rows: &[u32], pairs: &[u32]) -> bool
     if !shape::is_body(rows) {
         return false;
     }
-    list_fits(rows, pair_count, root, 1, 0)
+    list_fits(rows, pair_count, root, 1, None)
 }

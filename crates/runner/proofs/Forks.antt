@@ -1,6 +1,6 @@
 -- Forks by the words of a row: kinds 13, 15, 16 and 20, 19 with a condition, and 18 with anything below its Block.
 -- Assumes nothing.
-use mathlib.Core.Path.{◌≡◌, refl, sym, ◌∙◌, ap}
+use mathlib.Core.Path.{◌≡◌, refl, ◌∙◌, ap}
 use mathlib.Core.Bool.{Bool, true, false, ◌||◌, ◌&&◌}
 use mathlib.Core.List.{List, [], ◌∷◌}
 use Prim.Native.Nat.{ℕ, zero, suc, ◌≤◌, ◌<◌}
@@ -17,7 +17,7 @@ use Rattle.rules.specs.Walking.{is_fork}
 use Rattle.rules.proofs.Test.{case-of}
 use Rattle.rules.proofs.Every.{every, same, same-eq, is_one}
 use Rattle.rules.proofs.Details.{of-allowed}
-use Rattle.rules.proofs.ByKind.{NoneOf}
+use Rattle.rules.proofs.ByKind.{among, NoneOf}
 use Rattle.rules.proofs.Lists.{own-words}
 use Rattle.rules.proofs.Going.{clause-count, item-count-more, item-count-none}
 
@@ -29,7 +29,7 @@ is_select = one_of (select ∷ [])
 
 -- ---- by kind and detail
 abbrev fork_kind : ℕ → ℕ → Bool
-fork_kind k d = (eqb k 13 || eqb k 15) || ((eqb k 16 || eqb k 20) || (eqb k 19 && eqb d 1))
+fork_kind k d = among (13 ∷ 15 ∷ 16 ∷ 20 ∷ []) k || (eqb k 19 && eqb d 1)
 
 kind-fork : (k d : ℕ) → detail_allowed k d ≡ true → is_plain_fork (class_of k d) ≡ fork_kind k d
 unfolding every lowest detail_allowed class_of
@@ -75,10 +75,14 @@ module _ {w p b : List ℕ} (body : Body w p b) (r : ℕ) (l : r < row_count w) 
       (λ t. let e = is_one (class w r) select t in rw (← own-fork, ← own-select, ← clause-size e, is_fork))
       (λ f. rw (← own-fork, ← own-select, f, is_fork))
 
-  -- as an arm of the code's match knows the kind, and as its last one does
-  pub fork-arm : (k n : ℕ) → k ≡ kind w r → k ≡ n → fork_at n ≡ is_fork w r
-  fork-arm k n e f = ap fork_at (sym f ∙ e) ∙ fork-words
+  -- ---- as the code's match knows the kind
+  pub fork-always : among (13 ∷ 15 ∷ 16 ∷ 20 ∷ []) (kind w r) ≡ true → true ≡ is_fork w r
+  fork-always t = rw t at fork-words
 
-  pub fork-rest : (k : ℕ) → k ≡ kind w r → NoneOf (20 ∷ 19 ∷ 18 ∷ 16 ∷ 15 ∷ 13 ∷ []) k → false ≡ is_fork w r
-  fork-rest k e (((((((u, a), b), c), d), f), g)) =
-      sym (rw (ne_eqb k 13 a, ne_eqb k 15 b, ne_eqb k 16 c, ne_eqb k 18 d, ne_eqb k 19 f, ne_eqb k 20 g)) ∙ ap fork_at e ∙ fork-words
+  pub fork-arm : (n : ℕ) → n ≡ kind w r → fork_at n ≡ is_fork w r
+  fork-arm n e = ap fork_at e ∙ fork-words
+
+  pub fork-never : NoneOf (20 ∷ 19 ∷ 18 ∷ 16 ∷ 15 ∷ 13 ∷ []) (kind w r) → false ≡ is_fork w r
+  fork-never (((((((u, a), b), c), d), f), g)) =
+      let k = kind w r in
+      rw (ne_eqb k 13 a, ne_eqb k 15 b, ne_eqb k 16 c, ne_eqb k 18 d, ne_eqb k 19 f, ne_eqb k 20 g) at fork-words

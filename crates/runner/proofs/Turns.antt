@@ -38,6 +38,9 @@ row_word place h = omega arith
 pub row_inside : (w : List ℕ) (place : ℕ) → 2 ≤ place → Inside w (place_of place) → Inside w (at (place - 2))
 row_inside w place h = subst (λ (s : State). Inside w s) (ap place_of (row_word place h))
 
+pub inside_row : (w : List ℕ) (place : ℕ) → Inside w (place_of place) → 2 ≤ place → place - 2 < row_count w
+inside_row w place x h = (row_inside w place h x).0
+
 -- ---- the steps of a row, as the table has them
 module _ {w p b f t : List ℕ} (g : Faultless w p b) (table : StepTable w p b f t) (r : ℕ) (here : Inside w (at r)) where
   -- the place by choice c

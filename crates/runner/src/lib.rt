@@ -3,20 +3,21 @@
 
 ghost use Rattle.std.specs.Prelude.{◌≡◌, ◌≤◌, ◌<◌};
 ghost use Rattle.rules.specs.Rows.{row_count};
-ghost use Rattle.rules.specs.Refusals.{WellFormed};
-ghost use Rattle.rules.specs.Body.{Formed};
 ghost use Rattle.rules.specs.Runner.{at};
 ghost use Rattle.rules.specs.Calls.{answered};
-ghost use Rattle.rules.specs.Walking.{place_of, walked, is_fork, walk_on, walk_call, Inside, Faultless};
-ghost use Rattle.steps.specs.StepTable.{StepTable};
+ghost use Rattle.rules.specs.Walking.{place_of, walked, is_fork, walk_on, walk_call, Inside};
+ghost use Rattle.steps.specs.StepTable.{StepTable as IsStepTable};
 ghost use Rattle.runner.specs.Given.{state_of, given};
 ghost use Rattle.runner.specs.Rounds.{Goes, Skipped};
 
-use body::Checked;
+use body::Body;
+use destinations::FaultlessBody;
 use refusals::Refusal;
-use rows::{RowNumber, details, kinds};
+use rows::kinds::Kind;
+use rows::{RowNumber, details};
+use steps::StepTable;
 
-#[derive(Clone, Copy)]
+#[derive(Clone, Copy, Debug, PartialEq, Eq)]
 pub enum Place {
     Stopped,
     // the closing brace
@@ -24,7 +25,7 @@ pub enum Place {
     Row(RowNumber),
 }
 
-#[derive(Clone, Copy)]
+#[derive(Clone, Copy, Debug, PartialEq, Eq)]
 pub struct WalkEnd {
     pub place: Place,
     // the steps made
@@ -33,36 +34,17 @@ pub struct WalkEnd {
     pub used: usize,
 }
 
-#[derive(Clone, Copy)]
-pub enum WalkAnswer {
-    Refused(Refusal),
-    Reached(WalkEnd),
-}
-
-fn wide(number: u16) -> usize
-    ensures { result ≡ number }
-{
-    number as usize
-}
-
-fn choice_of(word: u32) -> usize
-    ensures { result ≡ word }
-{
-    word as usize
-}
-
 // Whether the runner takes a choice at the row.
-fn is_fork(rows: &[u32], row: RowNumber) -> bool
-    requires { Formed rows.now × (row.0 < row_count rows.now) }
-    ensures { result ≡ is_fork rows.now row.0 }
+#[tactic(auto, using(body::proofs::Facts::allowed))]
+fn is_fork(body: Body<'_>, row: RowNumber) -> bool
+    requires { row.0 < row_count body.rows.now }
+    ensures { result ≡ is_fork body.entry.rows.now row.0 }
 {
-    match rows::kind(rows, row) {
-        kinds::IF => true,
-        kinds::SWITCH => true,
-        kinds::TYPE_SWITCH => true,
-        kinds::SELECT => 2 < rows::size(rows, row),
-        kinds::FOR => rows::detail(rows, row) == details::WITH_CONDITION,
-        kinds::RANGE => true,
+    let rows = body.rows;
+    match rows::kind_at(rows, row) {
+        Kind::If | Kind::Switch | Kind::TypeSwitch | Kind::Range => true,
+        Kind::Select => 2 < rows::size(rows, row),
+        Kind::For => rows::detail(rows, row) == details::WITH_CONDITION,
         _ => false,
     }
 }
@@ -71,52 +53,43 @@ fn is_fork(rows: &[u32], row: RowNumber) -> bool
 fn place_of(word: usize) -> Place
     ensures { state_of result ≡ place_of word }
 {
-    if word == 0 {
-        return Place::Stopped;
+    match word {
+        0 => Place::Stopped,
+        1 => Place::Brace,
+        _ => Place::Row(RowNumber(word - 2)),
     }
-    if word == 1 {
-        return Place::Brace;
-    }
-    Place::Row(RowNumber(word - 2))
 }
 
 // The answer of a walk that ends at the place of a word.
-fn reached(word: usize, steps: usize, used: usize) -> WalkAnswer
+fn reached(word: usize, steps: usize, used: usize) -> Result<WalkEnd, Refusal>
     ensures { given result ≡ answered (walked (place_of word) steps used) }
 {
     let place = place_of(word);
-    WalkAnswer::Reached(WalkEnd { place, steps, used })
+    Ok(WalkEnd { place, steps, used })
 }
 
 // The steps of a round from the place back to it without a fork; 0 where there is none of as many
 // steps as there are rows.
-fn round_from(
-    rows: &[u32],
-    pairs: &[u32],
-    bytes: &[u8],
-    firsts: &[u16],
-    steps: &[u16],
-    place: usize,
-) -> usize
-    requires faultless { Faultless rows.now pairs.now bytes.now × StepTable rows.now pairs.now bytes.now firsts.now steps.now }
-    requires inside { Inside rows.now (place_of place) }
-    ensures { Goes rows.now pairs.now bytes.now place result place }
+#[tactic(auto, using(crate::proofs::Turns::inside_row))]
+fn round_from(faultless: FaultlessBody<'_>, table: StepTable<'_>, place: usize) -> usize
+    requires table { IsStepTable faultless.body.rows.now faultless.body.pairs.now
+        faultless.body.bytes.now table.firsts.now table.steps.now }
+    requires inside { Inside faultless.body.rows.now (place_of place) }
+    ensures { Goes faultless.entry.body.rows.now faultless.entry.body.pairs.now
+        faultless.entry.body.bytes.now place result place }
 {
-    let count = rows.len() / 5;
     let mut here = place;
-    let mut round = 0;
-    while round < count {
+    for made in 0..faultless.body.rows.len() / 5 {
         if here < 2 {
             return 0;
         }
         let row = here - 2;
-        if is_fork(rows, RowNumber(row)) {
+        if is_fork(faultless.body, RowNumber(row)) {
             return 0;
         }
-        here = wide(steps[wide(firsts[row])]);
-        round += 1;
+        here = usize::from(table.steps[usize::from(table.firsts[row])]);
         if here == place {
-            return round;
+            return made + 1;
         }
     }
     0
@@ -125,23 +98,22 @@ fn round_from(
 // The steps made, with whole rounds without a fork added up to the limit, so that a walk takes no
 // longer for a limit that it could reach only in rounds. Rounds are looked for now and then.
 fn past_rounds(
-    rows: &[u32],
-    pairs: &[u32],
-    bytes: &[u8],
-    firsts: &[u16],
-    steps: &[u16],
+    faultless: FaultlessBody<'_>,
+    table: StepTable<'_>,
     place: usize,
     made: usize,
     limit: usize,
 ) -> usize
-    requires faultless { Faultless rows.now pairs.now bytes.now × StepTable rows.now pairs.now bytes.now firsts.now steps.now }
-    requires inside { Inside rows.now (place_of place) × (made ≤ limit) }
-    ensures { Skipped rows.now pairs.now bytes.now limit place made result }
+    requires table { IsStepTable faultless.body.rows.now faultless.body.pairs.now
+        faultless.body.bytes.now table.firsts.now table.steps.now }
+    requires inside { Inside faultless.body.rows.now (place_of place) × (made ≤ limit) }
+    ensures { Skipped faultless.entry.body.rows.now faultless.entry.body.pairs.now
+        faultless.entry.body.bytes.now limit place made result }
 {
     if made % 65536 != 0 {
         return made;
     }
-    let round = round_from(rows, pairs, bytes, firsts, steps, place);
+    let round = round_from(faultless, table, place);
     if round == 0 {
         return made;
     }
@@ -149,17 +121,17 @@ fn past_rounds(
 }
 
 // The walk from row 0, each step looked up in the tables.
+#[tactic(auto, using(crate::proofs::Turns::inside_row))]
 fn walk_on(
-    rows: &[u32],
-    pairs: &[u32],
-    bytes: &[u8],
-    firsts: &[u16],
-    steps: &[u16],
+    faultless: FaultlessBody<'_>,
+    table: StepTable<'_>,
     choices: &[u32],
     limit: usize,
-) -> WalkAnswer
-    requires { Faultless rows.now pairs.now bytes.now × StepTable rows.now pairs.now bytes.now firsts.now steps.now }
-    ensures { given result ≡ walk_on rows.now pairs.now bytes.now choices.now limit (at 0) 0 0 }
+) -> Result<WalkEnd, Refusal>
+    requires { IsStepTable faultless.body.rows.now faultless.body.pairs.now
+        faultless.body.bytes.now table.firsts.now table.steps.now }
+    ensures { given result ≡ walk_on faultless.entry.body.rows.now faultless.entry.body.pairs.now
+        faultless.entry.body.bytes.now choices.now limit (at 0) 0 0 }
 {
     let mut place = 2;
     let mut made = 0;
@@ -169,46 +141,57 @@ fn walk_on(
             return reached(place, made, used);
         }
         let r = place - 2;
-        let mut step = wide(firsts[r]);
-        if is_fork(rows, RowNumber(r)) {
+        let mut step = usize::from(table.firsts[r]);
+        if is_fork(faultless.body, RowNumber(r)) {
             if choices.len() <= used {
                 return reached(place, made, used);
             }
-            let choice = choice_of(choices[used]);
-            if wide(firsts[r + 1]) - step <= choice {
-                return WalkAnswer::Refused(Refusal::Choice(used));
+            let choice = choices[used] as usize;
+            if usize::from(table.firsts[r + 1]) - step <= choice {
+                return Err(Refusal::Choice(used));
             }
             step += choice;
             used += 1;
         }
-        place = wide(steps[step]);
-        made = past_rounds(rows, pairs, bytes, firsts, steps, place, made + 1, limit);
+        place = usize::from(table.steps[step]);
+        made = past_rounds(faultless, table, place, made + 1, limit);
     }
     reached(place, made, used)
 }
 
 // The walk of a well-formed body; 8 where it has a fault.
-fn walk_of(rows: &[u32], pairs: &[u32], bytes: &[u8], choices: &[u32], limit: usize) -> WalkAnswer
-    requires { WellFormed rows.now pairs.now bytes.now }
-    ensures { given result ≡ walk_call rows.now pairs.now bytes.now choices.now limit }
+fn walk_of(body: Body<'_>, choices: &[u32], limit: usize) -> Result<WalkEnd, Refusal>
+    ensures { given result ≡ walk_call body.entry.rows.now body.entry.pairs.now body.entry.bytes.now
+        choices.now limit }
 {
     let mut bindings = [0u32; 2000];
-    if !faultless::is_faultless(rows, pairs, bytes, &mut bindings) {
-        return WalkAnswer::Refused(Refusal::Faulty);
+    if !faultless::is_faultless(body, &mut bindings) {
+        return Err(Refusal::Faulty);
     }
+    let faultless = FaultlessBody {
+        body,
+        bindings: &bindings,
+    };
     let mut firsts = [0u16; 2001];
     let mut steps = [0u16; 6000];
-    steps::steps_of(rows, pairs, bytes, &bindings, &mut firsts, &mut steps);
-    walk_on(rows, pairs, bytes, &firsts, &steps, choices, limit)
+    steps::steps_of(faultless, &mut firsts, &mut steps);
+    let table = StepTable {
+        firsts: &firsts,
+        steps: &steps,
+    };
+    walk_on(faultless, table, choices, limit)
 }
 
 // The walk from row 0 by the choices, of `limit` steps at most: the place reached, the steps made and
 // the choices used; else the refusal.
-pub fn walk(rows: &[u32], pairs: &[u32], bytes: &[u8], choices: &[u32], limit: usize) -> WalkAnswer
+pub fn walk(
+    rows: &[u32],
+    pairs: &[u32],
+    bytes: &[u8],
+    choices: &[u32],
+    limit: usize,
+) -> Result<WalkEnd, Refusal>
     ensures { given result ≡ walk_call rows.now pairs.now bytes.now choices.now limit }
 {
-    match body::refusal_of(rows, pairs, bytes) {
-        Checked::Refused(r) => WalkAnswer::Refused(r),
-        Checked::WellFormed => walk_of(rows, pairs, bytes, choices, limit),
-    }
+    walk_of(Body::new(rows, pairs, bytes)?, choices, limit)
 }

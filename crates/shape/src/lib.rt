@@ -7,15 +7,16 @@ ghost use Rattle.rules.specs.Rows.{row_count, size, end};
 ghost use Rattle.rules.specs.Class.{block, is_statement, class_of, detail_allowed, base, class};
 ghost use Rattle.rules.specs.Refusals.{branches, holding, may_hold, at_least, children_fit, is_body, bad_shape};
 ghost use Rattle.rules.specs.Body.{Sized, Detailed};
-ghost use Rattle.names.specs.Place.{place};
+ghost use Rattle.rows.specs.Found.{row_found};
+ghost use Rattle.rows.specs.Kinds.{number};
 ghost use Rattle.shape.specs.Held.{held};
 ghost use Rattle.shape.specs.DetailedTo.{DetailedTo};
 
-use names::Found;
-use rows::{RowNumber, details, kinds};
+use rows::kinds::Kind;
+use rows::{RowNumber, details};
 
 // What stands below a row.
-#[derive(Clone, Copy)]
+#[derive(Clone, Copy, Debug, PartialEq, Eq)]
 pub enum Holding {
     // size 1
     Nothing,
@@ -41,11 +42,9 @@ fn block_holding(rows: &[u32], row: RowNumber) -> Holding
     if row.0 == 0 {
         return Holding::Statements;
     }
-    let before = rows::kind(rows, RowNumber(row.0 - 1));
-    match before {
-        kinds::SWITCH => Holding::Cases,
-        kinds::TYPE_SWITCH => Holding::Cases,
-        kinds::SELECT => Holding::Comms,
+    match rows::kind_at(rows, RowNumber(row.0 - 1)) {
+        Kind::Switch | Kind::TypeSwitch => Holding::Cases,
+        Kind::Select => Holding::Comms,
         _ => Holding::Statements,
     }
 }
@@ -55,67 +54,46 @@ pub fn holding_at(rows: &[u32], row: RowNumber) -> Holding
     requires { (row.0 < row_count rows.now) × DetailedTo rows.now row.0 }
     ensures { held result ≡ holding (class rows.now row.0) }
 {
-    let kind = rows::kind(rows, row);
-    match kind {
-        kinds::LABELED => Holding::Statement,
-        kinds::BLOCK => block_holding(rows, row),
-        kinds::IF => {
+    match rows::kind_at(rows, row) {
+        Kind::Labeled => Holding::Statement,
+        Kind::Block => block_holding(rows, row),
+        Kind::If => {
             if rows::detail(rows, row) == details::WITH_ELSE {
                 Holding::Branches
             } else {
                 Holding::Body
             }
         }
-        kinds::CASE => Holding::Statements,
-        kinds::SWITCH => Holding::Body,
-        kinds::TYPE_SWITCH => Holding::Body,
-        kinds::COMM => Holding::Statements,
-        kinds::SELECT => Holding::Body,
-        kinds::FOR => Holding::Body,
-        kinds::RANGE => Holding::Body,
+        Kind::Case | Kind::Comm => Holding::Statements,
+        Kind::Switch | Kind::TypeSwitch | Kind::Select | Kind::For | Kind::Range => Holding::Body,
         _ => Holding::Nothing,
     }
 }
 
-// Whether a row of this kind may be an item of a list: no Case and no Comm.
-fn is_statement(kind: u32) -> bool
-    ensures { (d : ℕ) → detail_allowed kind d ≡ true → result ≡ is_statement (class_of kind d) }
-{
-    if kind == kinds::CASE {
-        return false;
-    }
-    kind != kinds::COMM
-}
-
 // Whether child number i of a row that holds this may be of this kind.
-pub fn may_hold(holding: Holding, i: usize, kind: u32) -> bool
-    ensures { (d : ℕ) → detail_allowed kind d ≡ true → result ≡ may_hold (held holding) i (class_of kind d) }
+pub fn may_hold(holding: Holding, i: usize, kind: Kind) -> bool
+    ensures { (d : ℕ) → detail_allowed (number kind) d ≡ true → result ≡ may_hold (held holding) i (class_of (number kind) d) }
 {
     match holding {
         Holding::Nothing => false,
-        Holding::Statement => { if i == 0 { is_statement(kind) } else { false } }
-        Holding::Body => { if i == 0 { kind == kinds::BLOCK } else { false } }
+        Holding::Statement => i == 0 && kind.is_statement(),
+        Holding::Body => i == 0 && kind == Kind::Block,
         Holding::Branches => may_branch(i, kind),
-        Holding::Statements => is_statement(kind),
-        Holding::Cases => kind == kinds::CASE,
-        Holding::Comms => kind == kinds::COMM,
+        Holding::Statements => kind.is_statement(),
+        Holding::Cases => kind == Kind::Case,
+        Holding::Comms => kind == Kind::Comm,
     }
 }
 
 // The same of an If with else: a Block, then a Block or If.
-fn may_branch(i: usize, kind: u32) -> bool
-    ensures { (d : ℕ) → detail_allowed kind d ≡ true → result ≡ may_hold branches i (class_of kind d) }
+fn may_branch(i: usize, kind: Kind) -> bool
+    ensures { (d : ℕ) → detail_allowed (number kind) d ≡ true → result ≡ may_hold branches i (class_of (number kind) d) }
 {
-    if i == 0 {
-        return kind == kinds::BLOCK;
+    match i {
+        0 => kind == Kind::Block,
+        1 => matches!(kind, Kind::Block | Kind::If),
+        _ => false,
     }
-    if i == 1 {
-        if kind == kinds::IF {
-            return true;
-        }
-        return kind == kinds::BLOCK;
-    }
-    false
 }
 
 // How many children there are at least.
@@ -123,13 +101,9 @@ fn at_least(holding: Holding) -> usize
     ensures { result ≡ at_least (held holding) }
 {
     match holding {
-        Holding::Nothing => 0,
-        Holding::Statement => 1,
-        Holding::Body => 1,
+        Holding::Statement | Holding::Body => 1,
         Holding::Branches => 2,
-        Holding::Statements => 0,
-        Holding::Cases => 0,
-        Holding::Comms => 0,
+        Holding::Nothing | Holding::Statements | Holding::Cases | Holding::Comms => 0,
     }
 }
 
@@ -144,10 +118,10 @@ fn children_fit(rows: &[u32], row: RowNumber, holding: Holding) -> bool
     let mut i = 0;
     while c < end {
         let child = RowNumber(c);
-        if !may_hold(holding, i, rows::kind(rows, child)) {
+        if !may_hold(holding, i, rows::kind_at(rows, child)) {
             return false;
         }
-        c = c + rows::size(rows, child);
+        c += rows::size(rows, child);
         if end < c {
             return false;
         }
@@ -162,7 +136,7 @@ pub fn is_body(rows: &[u32]) -> bool
     ensures { result ≡ is_body rows.now }
 {
     let root = RowNumber(0);
-    if rows::kind(rows, root) != kinds::BLOCK {
+    if rows::kind_at(rows, root) != Kind::Block {
         return false;
     }
     rows::size(rows, root) == rows.len() / 5
@@ -173,26 +147,21 @@ fn shape_holds(rows: &[u32], row: RowNumber) -> bool
     requires { (row.0 < row_count rows.now) × Sized rows.now × Detailed rows.now }
     ensures { result ≡ not (bad_shape rows.now row.0) }
 {
-    if row.0 == 0 {
-        if !is_body(rows) {
-            return false;
-        }
+    if row.0 == 0 && !is_body(rows) {
+        return false;
     }
     children_fit(rows, row, holding_at(rows, row))
 }
 
 // The lowest row that breaks the shape of its kind, once sizes and details are right.
-pub fn first_bad_shape(rows: &[u32]) -> Found
+pub fn first_bad_shape(rows: &[u32]) -> Option<RowNumber>
     requires { Sized rows.now × Detailed rows.now }
-    ensures { place result ≡ lowest (bad_shape rows.now) (row_count rows.now) }
+    ensures { row_found result ≡ lowest (bad_shape rows.now) (row_count rows.now) }
 {
-    let count = rows.len() / 5;
-    let mut r = 0;
-    while r < count {
+    for r in 0..rows.len() / 5 {
         if !shape_holds(rows, RowNumber(r)) {
-            return Found::At(r);
+            return Some(RowNumber(r));
         }
-        r += 1;
     }
-    Found::Nowhere
+    None
 }

@@ -1,75 +1,105 @@
--- The arms of the two matches on the number of a row's class: each is the law of that class, with the places that the tables have.
+-- The arms of the two matches on a row's class: each is the law of that class, with the places that the tables have.
 -- Assumes nothing.
 use mathlib.Core.Path.{◌≡◌, refl, sym, ◌∙◌, ap}
 use mathlib.Core.Bool.{true}
 use mathlib.Core.List.{List}
+use mathlib.Core.Logic.{◌⊎◌, ⊎_elim}
 use Prim.Native.Nat.{ℕ, suc, ◌+◌, ◌≤◌, ◌<◌}
 use native.Mathlib.Omega.{arith}
 use lib.ListN.{get_or}
 use Rattle.rules.specs.Rows.{row_count, size, end}
-use Rattle.rules.specs.Class.{select, if_else, code, is_branch, is_switch, class}
+use Rattle.rules.specs.Class.{is_branch, class}
+use Rattle.rules.specs.Scope.{is_list}
 use Rattle.rules.specs.Runner.{State, at, after, choices}
-use Rattle.rules.proofs.Every.{class_at}
-use Rattle.rules.proofs.ByKind.{NoneOf}
+use Rattle.std.proofs.lemmas.Bool.{false≢true}
 use Rattle.rules.proofs.ClassRules.{is_clause_block}
 use Rattle.rules.proofs.Steps.{TwoWays, is_plain, plain-goes-on, stop-stops, labeled-enters, list-first-item, list-without-items, if-ways, if-else-ways}
 use Rattle.rules.proofs.Steps.{for-condition-ways, for-enters}
-use Rattle.classes.proofs.Codes.{code_is}
+use Rattle.classes.specs.Classes.{class_is}
+use Rattle.classes.specs.declared.Class.{Class}
+use Rattle.classes.specs.declared.Class.TheVariants.{Plain, Declaration, Empty, Labeled, Stop, Break, Continue, Goto, Fallthrough}
+use Rattle.classes.specs.declared.Class.TheVariants.{CaseBlock, CommBlock, If, IfElse, Switch, TypeSwitch, Select, For, ForCond}
 use Rattle.steps.specs.Written.{Tables, has_one_way, OnlyStep}
 use Rattle.steps.proofs.Choices.{branch-choices, no-choices}
-use Rattle.steps.proofs.Leads.{forks, other-one-way, singles, other-list, place-below, only-way}
+use Rattle.steps.proofs.Leads.{place-below, only-way}
 
-module _ {w p b afters destinations : List ℕ} (t : Tables w p b afters destinations) {r n : ℕ} (l : r < row_count w) (e : n ≡ code (class w r)) where
-  -- ---- one way
-  pub labeled-below : n ≡ 3 → OnlyStep w p b r (r + 3)
-  labeled-below k = only-way w p b r (r + 3) (labeled-enters w p b r (code_is (class w r) 3 (sym e ∙ k))) (place-below r (r + 3) refl)
+-- ---- what the last arm takes: of the rows with one way the lists
+abbrev pub NoSingle : Class → Type 0
+NoSingle k = (k ≡ Labeled → ⊥) × (k ≡ For → ⊥) × (k ≡ Stop → ⊥) × (k ≡ Break → ⊥) × (k ≡ Continue → ⊥) × (k ≡ Goto → ⊥)
+    × (k ≡ Fallthrough → ⊥) × (k ≡ Plain → ⊥) × (k ≡ Declaration → ⊥) × (k ≡ Empty → ⊥)
 
-  pub for-below : n ≡ 21 → OnlyStep w p b r (r + 3)
-  for-below k = only-way w p b r (r + 3) (for-enters w p b r (code_is (class w r) 21 (sym e ∙ k))) (place-below r (r + 3) refl)
+other-list : (k : Class) → NoSingle k → has_one_way (class_is k) ≡ true → is_list (class_is k) ≡ true
+other-list Labeled n t = absurd (n.0 refl)
+other-list For n t = absurd (n.1 refl)
+other-list Stop n t = absurd (n.2 refl)
+other-list Break n t = absurd (n.3 refl)
+other-list Continue n t = absurd (n.4 refl)
+other-list Goto n t = absurd (n.5 refl)
+other-list Fallthrough n t = absurd (n.6 refl)
+other-list Plain n t = absurd (n.7 refl)
+other-list Declaration n t = absurd (n.8 refl)
+other-list Empty n t = absurd (n.9 refl)
+other-list If n t = absurd (false≢true t)
+other-list ForCond n t = absurd (false≢true t)
+other-list IfElse n t = absurd (false≢true t)
+other-list Switch n t = absurd (false≢true t)
+other-list TypeSwitch n t = absurd (false≢true t)
+other-list Select n t = absurd (false≢true t)
+other-list CaseBlock n t = absurd (false≢true t)
+other-list CommBlock n t = absurd (false≢true t)
+other-list k n t = refl
 
-  pub stop-here : n ≡ 4 → OnlyStep w p b r 0
-  stop-here k = only-way w p b r 0 (stop-stops w p b r (code_is (class w r) 4 (sym e ∙ k))) refl
+module _ {w p b afters destinations : List ℕ} (t : Tables w p b afters destinations) {r : ℕ} (l : r < row_count w) where
+  branch-there : is_branch (class w r) ≡ true → OnlyStep w p b r (get_or destinations r 0)
+  branch-there u = (branch-choices w p b r u, t.branch_rows r l u)
 
-  pub branch-there : (m : ℕ) → is_branch (class_at m) ≡ true → n ≡ m → OnlyStep w p b r (get_or destinations r 0)
-  branch-there m u k =
-      let v : is_branch (class w r) ≡ true = ap is_branch (code_is (class w r) m (sym e ∙ k)) ∙ u in
-      (branch-choices w p b r v, t.branch_rows r l v)
+  plain-on : is_plain (class w r) ≡ true → OnlyStep w p b r (get_or afters r 0)
+  plain-on u = only-way w p b r (get_or afters r 0) (plain-goes-on w p b r u) (t.after_rows r l)
 
-  pub plain-on : (m : ℕ) → is_plain (class_at m) ≡ true → n ≡ m → OnlyStep w p b r (get_or afters r 0)
-  plain-on m u k =
-      only-way w p b r (get_or afters r 0) (plain-goes-on w p b r (ap is_plain (code_is (class w r) m (sym e ∙ k)) ∙ u)) (t.after_rows r l)
-
-  pub list-below : NoneOf singles n → has_one_way (class w r) ≡ true → 1 < size w r → OnlyStep w p b r (r + 3)
-  list-below u v h = only-way w p b r (r + 3) (list-first-item w p b r (other-list (class w r) e u v) h) (place-below r (r + 3) refl)
-
-  pub list_on : NoneOf singles n → has_one_way (class w r) ≡ true → size w r ≤ 1 → OnlyStep w p b r (get_or afters r 0)
-  list_on u v h = only-way w p b r (get_or afters r 0) (list-without-items w p b r (other-list (class w r) e u v) h) (t.after_rows r l)
-
-  pub is-one-way : NoneOf forks n → has_one_way (class w r) ≡ true
-  is-one-way u = other-one-way (class w r) e u
-
-  -- ---- two ways
+  -- there is room for two steps
   pub two-room : (first : ℕ) {m : ℕ} {s u : State} → TwoWays w p b r s u → first + choices w p b (at r) ≤ m → (r < 2000) × (first + 2 ≤ m)
   two-room first x h = (omega (arith, t.body.most_rows), omega (arith, x.0))
 
-  pub if-two : n ≡ 12 → TwoWays w p b r (at (suc r)) (after w r)
-  if-two k = if-ways w p b r (code_is (class w r) 12 (sym e ∙ k))
+module _ {w p b afters destinations : List ℕ} (t : Tables w p b afters destinations) {r : ℕ} (l : r < row_count w) {k : Class} (e : class_is k ≡ class w r) where
+  is-class : (n : Class) → k ≡ n → class w r ≡ class_is n
+  is-class n i = sym e ∙ ap class_is i
 
-  pub else-two : n ≡ 13 → TwoWays w p b r (at (suc r)) (at (end w (suc r)))
-  else-two k = if-else-ways w p b r (code_is (class w r) 13 (sym e ∙ k))
+  -- ---- one way
+  pub below : (k ≡ Labeled) ⊎ (k ≡ For) → OnlyStep w p b r (r + 3)
+  below = ⊎_elim
+      (λ i. only-way w p b r (r + 3) (labeled-enters w p b r (is-class Labeled i)) (place-below r (r + 3) refl))
+      (λ i. only-way w p b r (r + 3) (for-enters w p b r (is-class For i)) (place-below r (r + 3) refl))
 
-  pub cond-two : n ≡ 22 → TwoWays w p b r (at (suc r)) (after w r)
-  cond-two k = for-condition-ways w p b r (code_is (class w r) 22 (sym e ∙ k))
+  pub stop-here : k ≡ Stop → OnlyStep w p b r 0
+  stop-here i = only-way w p b r 0 (stop-stops w p b r (is-class Stop i)) refl
 
-  pub is-if-else : n ≡ 13 → class w r ≡ if_else
-  is-if-else k = code_is (class w r) 13 (sym e ∙ k)
+  pub there : (k ≡ Break) ⊎ ((k ≡ Continue) ⊎ ((k ≡ Goto) ⊎ (k ≡ Fallthrough))) → OnlyStep w p b r (get_or destinations r 0)
+  there = ⊎_elim (λ i. branch-there t l (ap is_branch (is-class Break i))) (⊎_elim (λ i. branch-there t l (ap is_branch (is-class Continue i)))
+      (⊎_elim (λ i. branch-there t l (ap is_branch (is-class Goto i))) (λ i. branch-there t l (ap is_branch (is-class Fallthrough i)))))
 
-  -- ---- forks with clauses, and their Blocks
-  pub is-switch : (m : ℕ) → is_switch (class_at m) ≡ true → n ≡ m → is_switch (class w r) ≡ true
-  is-switch m u k = ap is_switch (code_is (class w r) m (sym e ∙ k)) ∙ u
+  pub on : (k ≡ Plain) ⊎ ((k ≡ Declaration) ⊎ (k ≡ Empty)) → OnlyStep w p b r (get_or afters r 0)
+  on = ⊎_elim (λ i. plain-on t l (ap is_plain (is-class Plain i))) (⊎_elim (λ i. plain-on t l (ap is_plain (is-class Declaration i)))
+      (λ i. plain-on t l (ap is_plain (is-class Empty i))))
 
-  pub is-select : n ≡ 20 → class w r ≡ select
-  is-select k = code_is (class w r) 20 (sym e ∙ k)
+  module _ (n : NoSingle k) (v : has_one_way (class w r) ≡ true) where
+    listed : is_list (class w r) ≡ true
+    listed = rw e at (other-list k n (rw e v))
 
-  pub block_none : (m : ℕ) → is_clause_block (class_at m) ≡ true → n ≡ m → choices w p b (at r) ≡ 0
-  block_none m u k = no-choices w p b r (ap is_clause_block (code_is (class w r) m (sym e ∙ k)) ∙ u)
+    pub list-below : 1 < size w r → OnlyStep w p b r (r + 3)
+    list-below h = only-way w p b r (r + 3) (list-first-item w p b r listed h) (place-below r (r + 3) refl)
+
+    pub list_on : size w r ≤ 1 → OnlyStep w p b r (get_or afters r 0)
+    list_on h = only-way w p b r (get_or afters r 0) (list-without-items w p b r listed h) (t.after_rows r l)
+
+  -- ---- two ways
+  pub on-two : (k ≡ If) ⊎ (k ≡ ForCond) → TwoWays w p b r (at (suc r)) (after w r)
+  on-two = ⊎_elim (λ i. if-ways w p b r (is-class If i)) (λ i. for-condition-ways w p b r (is-class ForCond i))
+
+  pub else-two : k ≡ IfElse → TwoWays w p b r (at (suc r)) (at (end w (suc r)))
+  else-two i = if-else-ways w p b r (is-class IfElse i)
+
+  -- ---- the Block of a fork
+  pub block_none : (k ≡ CaseBlock) ⊎ (k ≡ CommBlock) → choices w p b (at r) ≡ 0
+  block_none = ⊎_elim
+      (λ i. no-choices w p b r (ap is_clause_block (is-class CaseBlock i)))
+      (λ i. no-choices w p b r (ap is_clause_block (is-class CommBlock i)))

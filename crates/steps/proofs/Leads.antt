@@ -1,80 +1,33 @@
 -- What is written for a row leads where its choices do: for each way in which rows go, the words written are the places of its steps.
 -- Assumes nothing.
 use mathlib.Core.Path.{◌≡◌, refl, sym, ◌∙◌, ap}
-use mathlib.Core.Bool.{Bool, true, false, not}
-use mathlib.Core.List.{List, [], ◌∷◌}
+use mathlib.Core.Bool.{Bool, true, false}
+use mathlib.Core.List.{List}
 use mathlib.Core.Option.{some}
 use Prim.Native.Nat.{ℕ, suc, ◌+◌, ◌≤◌, ◌<◌}
 use native.Mathlib.Omega.{arith}
 use native.Mathlib.Numerals.{add-one}
 use native.Mathlib.Decide.{ℕ_discrete}
-use lib.ListN.{length, get_or, set, length-set}
+use lib.ListN.{length, get_or, set}
 use lib.Seq.{get_or-set_same, get_or-set_other}
-use Rattle.rules.specs.Scan.{lowest}
-use Rattle.rules.specs.Class.{Class, select, code, is_switch, class}
-use Rattle.rules.specs.Scope.{is_list}
+use Rattle.rules.specs.Class.{select, is_switch, class}
 use Rattle.rules.specs.Runner.{State, at, after, item_at, clause_count, choices, step}
 use Rattle.rules.specs.Walking.{place_of}
-use Rattle.rules.proofs.Every.{every, implies, implied, of-class}
-use Rattle.rules.proofs.ByKind.{among, NoneOf, none-among}
 use Rattle.rules.proofs.WalkSteps.{place-row}
 use Rattle.rules.proofs.Steps.{OneWay, TwoWays, switch-takes, switch-with-default, switch-without-default, select-takes, select-choices}
 use Rattle.rules.proofs.Steps.{select-without-clauses}
-use Rattle.steps.specs.Written.{ClausesWritten, TwoWritten, RowWritten, has_one_way, OnlyStep}
-
--- ---- what the last arms of the matches take
-abbrev pub forks : List ℕ
-forks = 11 ∷ 10 ∷ 20 ∷ 19 ∷ 18 ∷ 22 ∷ 13 ∷ 12 ∷ []
-
-pub other-one-way : (c : Class) {n : ℕ} → n ≡ code c → NoneOf forks n → has_one_way c ≡ true
-unfolding every lowest
-other-one-way c e u =
-    implied (not (among forks (code c))) (has_one_way c) (of-class (λ c. implies (not (among forks (code c))) (has_one_way c)) refl c)
-    (ap not (rw e at (none-among forks _ u)))
-
-abbrev pub singles : List ℕ
-singles = 2 ∷ 1 ∷ 0 ∷ 8 ∷ 7 ∷ 6 ∷ 5 ∷ 4 ∷ 21 ∷ 3 ∷ []
-
-pub other-list : (c : Class) {n : ℕ} → n ≡ code c → NoneOf singles n → has_one_way c ≡ true → is_list c ≡ true
-unfolding every lowest
-other-list c e u t =
-    implied (has_one_way c) (is_list c)
-    (implied (not (among singles (code c))) (implies (has_one_way c) (is_list c))
-    (of-class (λ c. implies (not (among singles (code c))) (implies (has_one_way c) (is_list c))) refl c)
-    (ap not (rw e at (none-among singles _ u)))) t
+use Rattle.steps.specs.Written.{ClausesWritten, TwoWritten, RowWritten, OnlyStep}
 
 -- ---- places
 pub place-below : (r x : ℕ) → x ≡ r + 3 → place_of x ≡ at (suc r)
 place-below r x e = place-row x (suc r) (omega arith)
 
-pub two-written : (old : List ℕ) (r other first : ℕ) → first + 2 ≤ length old
-    → TwoWritten old (set (set old first other) (first + 1) (r + 3)) r other first (first + 2)
-two-written old r other first l = rw (add-one first) (record {
-  ends = refl;
-  without_body = get_or-set_other (set old first other) (suc first) first (r + 3) 0 (λ k. omega arith) ∙ get_or-set_same old first other 0 (omega arith);
-  with_body =
-      let z : r + 3 ≡ suc (suc (suc r)) = omega arith in
-      get_or-set_same (set old first other) (suc first) (r + 3) 0 (simp length-set (omega arith)) ∙ z;
-  kept = λ j h.
-      get_or-set_other (set old first other) (suc first) j (r + 3) 0 (λ k. omega arith) ∙ get_or-set_other old first j other 0 (λ k. omega arith);
-})
-
 module _ (w p b : List ℕ) (r : ℕ) where
   pub only-way : {s : State} (x : ℕ) → OneWay w p b r (some s) → place_of x ≡ s → OnlyStep w p b r x
   only-way x o e = (o.0, o.1 0 ∙ ap some (sym e))
 
-  -- ---- one step, two, and none
+  -- ---- none, and two
   module _ (old : List ℕ) (first : ℕ) where
-    pub row_one : (x : ℕ) → OnlyStep w p b r x → first < length old → RowWritten w p b old (set old first x) r first (first + 1)
-    row_one x o l = record {
-      ends = omega (arith, o.0);
-      steps = λ c h.
-          let z : c ≡ 0 = omega (arith, o.0) in
-          let k : first + 0 ≡ first = omega arith in
-          rw (z, k) (o.1 ∙ ap (λ (y : ℕ). some (place_of y)) (sym (get_or-set_same old first x 0 l)));
-      kept = λ j h. get_or-set_other old first j x 0 (λ k. omega arith);
-    }
-
     pub row-none : choices w p b (at r) ≡ 0 → RowWritten w p b old old r first first
     row-none z = record { ends = omega arith; steps = λ c h. absurd (omega arith); kept = λ j h. refl }
 

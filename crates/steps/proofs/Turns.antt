@@ -10,35 +10,35 @@ use native.Mathlib.Numerals.{add-one}
 use native.Mathlib.Decide.{ℕ_discrete}
 use lib.ListN.{length, get_or, set}
 use lib.Seq.{get_or-set_same, get_or-set_other}
-use borrow.Author.Tests.{ne_eqb}
 use Rattle.rules.specs.Rows.{size, end}
-use Rattle.rules.specs.Class.{Class, code, is_default, class}
+use Rattle.rules.specs.Class.{is_default, class}
 use Rattle.rules.specs.Verdict.{any_default, has_default}
 use Rattle.rules.specs.Runner.{item_at, item_count, clause_count}
 use Rattle.rules.proofs.Going.{item-at-first, item-count-more, item-count-none, clause-count}
 use Rattle.rules.proofs.Terminating.{any-default-more, any-default-none, has-default}
-use Rattle.classes.proofs.Codes.{code_is}
+use Rattle.classes.specs.Classes.{class_is}
+use Rattle.classes.specs.declared.Class.{Class}
+use Rattle.classes.specs.declared.Class.TheVariants.{DefaultCase, DefaultComm}
 use Rattle.steps.specs.Written.{ClausesWritten}
 use Rattle.steps.proofs.Choices.{item-at-next}
 
--- ---- a default by the number of its class; d was found before
-or-none : (d t : Bool) → t ≡ false → d ≡ (d || t)
+-- ---- a default by its class
+pub default : (k : Class) → (k ≡ DefaultCase) ⊎ (k ≡ DefaultComm) → true ≡ is_default (class_is k)
+default k = ⊎_elim (λ i. rw i) (λ i. rw i)
+
+pub no-default : (k : Class) → (k ≡ DefaultCase → ⊥) × (k ≡ DefaultComm → ⊥) → false ≡ is_default (class_is k)
+no-default DefaultCase n = absurd (n.0 refl)
+no-default DefaultComm n = absurd (n.1 refl)
+no-default k n = refl
+
+-- d was found before
+pub or-none : (d t : Bool) → t ≡ false → d ≡ (d || t)
 or-none true t e = refl
 or-none false t e = sym e
 
-or_some : (d t : Bool) → t ≡ true → true ≡ (d || t)
+pub or_some : (d t : Bool) → t ≡ true → true ≡ (d || t)
 or_some true t e = refl
 or_some false t e = sym e
-
-pub default-found : (c : Class) {n : ℕ} (d u t : Bool) → n ≡ code c → ((n ≡ 15) × (u ≡ true)) ⊎ ((n ≡ 15 → ⊥) × (u ≡ d))
-    → ((n ≡ 17) × (t ≡ true)) ⊎ ((n ≡ 17 → ⊥) × (t ≡ u)) → t ≡ (d || is_default c)
-default-found c d u t e x y = ⊎_elim
-    (λ a. a.1 ∙ or_some d (is_default c) (ap is_default (code_is c 17 (sym e ∙ a.0))))
-    (λ a. ⊎_elim
-    (λ z. a.1 ∙ z.1 ∙ or_some d (is_default c) (ap is_default (code_is c 15 (sym e ∙ z.0))))
-    (λ z. a.1 ∙ z.1 ∙ or-none d (is_default c) (rw (← e, ne_eqb _ 15 z.0, ne_eqb _ 17 a.0)))
-    x)
-    y
 
 -- ---- what the loop keeps
 pub record ClausesTo (w old new : List ℕ) (r first c end' : ℕ) (default : Bool) : Type 0 where

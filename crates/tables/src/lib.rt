@@ -1,44 +1,44 @@
 // The tables that the label walk reads: canonical numbers by name number, declared labels by
-// canonical number.
+// canonical number, and the list of each row.
 #![tactic(auto)]
 
-ghost use Rattle.std.specs.Prelude.{◌≡◌, true, ℕ, ◌<◌, length, get_or};
+ghost use Rattle.std.specs.Prelude.{◌≡◌, ℕ, ◌<◌, length, get_or};
 ghost use Rattle.rules.specs.Rows.{row_count, name};
-ghost use Rattle.rules.specs.Names.{count_of_pairs, names_ok, is_blank};
-ghost use Rattle.rules.specs.Body.{Body};
+ghost use Rattle.rules.specs.Names.{count_of_pairs, is_blank};
 ghost use Rattle.tables.specs.Canon.{CanonTable, DeclaredTable};
 
-use names::NameNumber;
-use rows::{RowNumber, kinds};
+use body::Body;
+use names::{NameNumber, Names};
+use rows::RowNumber;
+use rows::kinds::Kind;
 
-fn wide(number: u32) -> usize
-    ensures { result ≡ number }
-{
-    number as usize
+// What the walk looks up: the canonical number of each name number, the declared label of each
+// canonical number and the list of each row, both as 1 + a row, or 0.
+#[derive(Clone, Copy)]
+pub struct Tables<'t> {
+    pub canonical: &'t [u32],
+    pub label_rows: &'t [u16],
+    pub lists: &'t [u16],
 }
 
 // Whether the name is `_`.
-fn is_blank(pairs: &[u32], bytes: &[u8], name: NameNumber) -> bool
-    requires { names_ok pairs.now bytes.now ≡ true }
-    ensures { result ≡ is_blank pairs.now bytes.now name.0 }
+fn is_blank(names: Names<'_, '_>, name: NameNumber) -> bool
+    ensures { result ≡ is_blank names.entry.pairs.now names.entry.bytes.now name.0 }
 {
-    names::order::same_bytes(names::name_part(pairs, bytes, name), b"_")
+    names::order::same_bytes(names.bytes_of(name), b"_")
 }
 
 // The canonical number of each name, 0 for none and for `_`.
-pub fn canon_table(pairs: &[u32], bytes: &[u8], canonical: &mut [u32])
-    requires { (names_ok pairs.now bytes.now ≡ true) × (count_of_pairs pairs.now < length canonical.old) }
-    ensures { CanonTable pairs.now bytes.now canonical.new }
+pub fn canon_table(names: Names<'_, '_>, canonical: &mut [u32])
+    requires { count_of_pairs names.pairs.now < length canonical.old }
+    ensures { CanonTable names.entry.pairs.now names.entry.bytes.now canonical.new }
 {
-    canonical::canonical_numbers(pairs, bytes, canonical);
+    canonical::canonical_numbers(names, canonical);
     canonical[0] = 0;
-    let count = pairs.len() / 2;
-    let mut n = 1;
-    while n <= count {
-        if is_blank(pairs, bytes, NameNumber(n)) {
+    for n in 1..=names.count() {
+        if is_blank(names, NameNumber(n)) {
             canonical[n] = 0;
         }
-        n += 1;
     }
 }
 
@@ -48,35 +48,23 @@ pub fn canon_of(rows: &[u32], canonical: &[u32], row: RowNumber) -> usize
     ensures { result ≡ get_or canonical.now (name rows.now row.0) 0 }
 {
     let name = rows::name(rows, row);
-    let n = name.0;
-    wide(canonical[n])
+    canonical[name.0] as usize
 }
 
 // The declared label of each canonical number: the first Labeled row, 1 + its number. The table
 // comes in with 0 for each.
-pub fn declared_table(
-    rows: &[u32],
-    pairs: &[u32],
-    bytes: &[u8],
-    canonical: &[u32],
-    label_rows: &mut [u16],
-)
-    requires body { Body rows.now pairs.now bytes.now × CanonTable pairs.now bytes.now canonical.now }
-    requires pairs_in_bounds { (count_of_pairs pairs.now < length label_rows.old) × ((c : ℕ) → get_or label_rows.old c 0 ≡ 0) }
-    ensures { DeclaredTable rows.now pairs.now bytes.now label_rows.new }
+pub fn declared_table(body: Body<'_>, canonical: &[u32], label_rows: &mut [u16])
+    requires body { CanonTable body.pairs.now body.bytes.now canonical.now }
+    requires pairs_in_bounds { (count_of_pairs body.pairs.now < length label_rows.old) × ((c : ℕ) → get_or label_rows.old c 0 ≡ 0) }
+    ensures { DeclaredTable body.entry.rows.now body.entry.pairs.now body.entry.bytes.now label_rows.new }
 {
-    let count = rows.len() / 5;
-    let mut r = 0;
-    while r < count {
+    for r in 0..body.rows.len() / 5 {
         let row = RowNumber(r);
-        if rows::kind(rows, row) == kinds::LABELED {
-            let c = canon_of(rows, canonical, row);
-            if c != 0 {
-                if label_rows[c] == 0 {
-                    label_rows[c] = (r + 1) as u16;
-                }
+        if rows::kind_at(body.rows, row) == Kind::Labeled {
+            let c = canon_of(body.rows, canonical, row);
+            if c != 0 && label_rows[c] == 0 {
+                label_rows[c] = (r + 1) as u16;
             }
         }
-        r += 1;
     }
 }

@@ -1,73 +1,76 @@
 // Rows, pairs and names, made by loops.
-use std::num::{wrapping_add_u32, wrapping_add_usize, wrapping_sub_u32};
+use rows::kinds::Kind;
 
-// The kind, detail, name and size of a row. Its position is 1.
-#[derive(Clone, Copy)]
-pub struct Row(pub u32, pub u32, pub u32, pub u32);
+// A row; its position is 1.
+#[derive(Clone, Copy, Debug, PartialEq, Eq)]
+pub struct Row {
+    pub kind: Kind,
+    pub detail: u32,
+    pub name: u32,
+    pub size: u32,
+}
+
+impl Row {
+    pub fn new(kind: Kind, detail: u32, name: u32, size: u32) -> Row {
+        Row {
+            kind,
+            detail,
+            name,
+            size,
+        }
+    }
+
+    fn words(self) -> [u32; 5] {
+        [u32::from(self.kind), self.detail, 1, self.name, self.size]
+    }
+}
 
 // Row numbers: the first, the step from each to the next, and how many there are.
-#[derive(Clone, Copy)]
-pub struct Run(pub u32, pub u32, pub u32);
+#[derive(Clone, Copy, Debug, PartialEq, Eq)]
+pub struct Run {
+    pub first: usize,
+    pub step: usize,
+    pub count: usize,
+}
 
-fn put(words: &mut [u32], at: usize, word: u32) {
-    if at < words.len() {
-        words[at] = word;
+impl Run {
+    pub fn new(first: usize, step: usize, count: usize) -> Run {
+        Run { first, step, count }
     }
 }
 
-// `count` words, the first at `first` and each `step` after the one before, where there is room:
-// each is larger by `more` than the one before.
-pub fn words(words: &mut [u32], first: usize, step: usize, count: u32, word: u32, more: u32) {
-    let mut at = first;
-    let mut next = word;
-    let mut left = count;
-    while 0 < left {
-        put(words, at, next);
-        at = wrapping_add_usize(at, step);
-        next = wrapping_add_u32(next, more);
-        left -= 1;
+// Rows that are alike, where there is room, but that each has a name larger by `more` and a size
+// smaller by `less` than the one before.
+pub fn rows(words: &mut [u32], run: Run, row: Row, more: u32, less: u32) {
+    let mut next = row;
+    let mut at = run.first;
+    for _ in 0..run.count {
+        if let Some(place) = words.chunks_exact_mut(5).nth(at) {
+            place.copy_from_slice(&next.words());
+        }
+        next.name = next.name.wrapping_add(more);
+        next.size = next.size.wrapping_sub(less);
+        at = at.wrapping_add(run.step);
     }
 }
 
-// One field of rows.
-fn field(rows: &mut [u32], run: Run, field: u32, word: u32, more: u32) {
-    let first = run.0 as usize * 5 + field as usize;
-    let step = run.1 as usize * 5;
-    words(rows, first, step, run.2, word, more);
+pub fn one_row(words: &mut [u32], number: usize, row: Row) {
+    rows(words, Run::new(number, 1, 1), row, 0, 0);
 }
 
-// Rows that are alike, but that each has a name larger by `more` and a size smaller by `less` than
-// the one before.
-pub fn rows(rows: &mut [u32], run: Run, row: Row, more: u32, less: u32) {
-    field(rows, run, 0, row.0, 0);
-    field(rows, run, 1, row.1, 0);
-    field(rows, run, 2, 1, 0);
-    field(rows, run, 3, row.2, more);
-    field(rows, run, 4, row.3, wrapping_sub_u32(0, less));
-}
-
-pub fn one_row(words: &mut [u32], number: u32, row: Row) {
-    rows(words, Run(number, 1, 1), row, 0, 0);
-}
-
-// `count` pairs of names of one length, one after the other.
-pub fn pairs(pairs: &mut [u32], count: u32, length: u32) {
-    words(pairs, 0, 2, count, 0, length);
-    words(pairs, 1, 2, count, length, 0);
-}
-
-// Byte i of the names zz, zy .. zb, yz, yy .. : each comes before the last in the order of bytes.
-fn name_byte(i: usize) -> u8 {
-    if i % 2 == 0 {
-        return (122 - i / 50 % 25) as u8;
+// Pairs of names of one length, one after the other, as many as there is room for.
+pub fn pairs(pairs: &mut [u32], length: u32) {
+    let mut offset = 0u32;
+    for pair in pairs.chunks_exact_mut(2) {
+        pair.copy_from_slice(&[offset, length]);
+        offset = offset.wrapping_add(length);
     }
-    (122 - i / 2 % 25) as u8
 }
 
+// The names zz, zy .. zb, yz, yy .. : each comes before the last in the order of bytes.
 pub fn names(bytes: &mut [u8]) {
-    let mut i = 0;
-    while i < bytes.len() {
-        bytes[i] = name_byte(i);
-        i += 1;
+    for (i, byte) in bytes.iter_mut().enumerate() {
+        let back = if i % 2 == 0 { i / 50 % 25 } else { i / 2 % 25 };
+        *byte = b'z' - back as u8;
     }
 }

@@ -1,43 +1,18 @@
-// Printing.
-use refusals::Refusal;
-use std::io;
+// Printing words.
+use std::fmt;
 
-pub fn text(rt: &impl Print, bytes: &[u8]) -> io::Result<()> {
-    rt.write_all(bytes)
-}
+// Words, printed with a blank between them.
+#[derive(Clone, Copy)]
+pub struct Words<'a>(pub &'a [u32]);
 
-// A text on a line.
-pub fn line(rt: &impl Print, bytes: &[u8]) -> io::Result<()> {
-    text(rt, bytes)?;
-    text(rt, b"\n")
-}
-
-// A number and the text after it.
-pub fn number(rt: &impl Print, n: usize, after: &[u8]) -> io::Result<()> {
-    print!(rt; "{n}")?;
-    text(rt, after)
-}
-
-// A word, after a blank unless it is the first.
-fn word(rt: &impl Print, i: usize, word: u32) -> io::Result<()> {
-    if 0 < i {
-        text(rt, b" ")?;
+impl fmt::Display for Words<'_> {
+    fn fmt<W: fmt::Write>(&self, f: &mut fmt::Formatter<W>) -> fmt::Result {
+        for (i, word) in self.0.iter().enumerate() {
+            if 0 < i {
+                f.write_str(" ")?;
+            }
+            write!(f, "{word}")?;
+        }
+        Ok(())
     }
-    number(rt, word as usize, b"")
-}
-
-// Words with a blank between them, and the text after them.
-pub fn words(rt: &impl Print, words: &[u32], after: &[u8]) -> io::Result<()> {
-    let mut i = 0;
-    while i < words.len() {
-        word(rt, i, words[i])?;
-        i += 1;
-    }
-    text(rt, after)
-}
-
-// The number and the index of a refusal, and the text after them.
-pub fn refusal(rt: &impl Print, refusal: Refusal, after: &[u8]) -> io::Result<()> {
-    number(rt, refusals::number_of(refusal) as usize, b" ")?;
-    number(rt, refusals::index_of(refusal), after)
 }

@@ -4,7 +4,7 @@
 use mathlib.Core.Path.{◌≡◌, sym, ◌∙◌, ap}
 use mathlib.Core.Bool.{true, false}
 use mathlib.Core.List.{List}
-use mathlib.Core.Option.{some}
+use mathlib.Core.Option.{none, some}
 use Prim.Native.Nat.{ℕ, suc, ◌+◌, ◌-◌, ◌≤◌, ◌<◌}
 use native.Mathlib.Omega.{arith}
 use lib.ListN.{length, get_or}
@@ -53,14 +53,14 @@ module _ {w p b cs ds ls : List ℕ} {x : ℕ} (t : Tables w p b cs ds ls x) whe
 -- ---- the declared label before a goto, step by step: c is the goto's canonical number, d the declared label's word, l that of its list
 module _ {w p b cs ds ls : List ℕ} {g : ℕ} (t : Tables w p b cs ds ls (suc g)) where
   module _ (c : ℕ) (row : g < row_count w) (ec : c ≡ get_or cs (name w g) 0) where
-    pub no-canon : c ≡ 0 → 0 ≡ word (earlier w p b g)
-    no-canon z = sym (ap word (earlier-none w p b g (declared-blank t.body g row (sym (canon-read t g c row ec) ∙ z))))
+    pub no-canon : c ≡ 0 → none ≡ earlier w p b g
+    no-canon z = sym (earlier-none w p b g (declared-blank t.body g row (sym (canon-read t g c row ec) ∙ z)))
 
     module _ (z : c ≡ 0 → ⊥) (d : ℕ) (ed : d ≡ get_or ds c 0) where
-      pub no-declared : d ≡ 0 → 0 ≡ word (earlier w p b g)
+      pub no-declared : d ≡ 0 → none ≡ earlier w p b g
       no-declared y = case-found (declared w p b g)
           (λ k e. let f = declared-read t g c d row ec z ed ∙ ap word e in absurd (omega arith))
-          (λ e. sym (ap word (earlier-none w p b g e)))
+          (λ e. sym (earlier-none w p b g e))
 
       module _ (y : d ≡ 0 → ⊥) where
         label : declared w p b g ≡ some (d - 1)
@@ -68,8 +68,8 @@ module _ {w p b cs ds ls : List ℕ} {g : ℕ} (t : Tables w p b cs ds ls (suc g
             let i : suc (d - 1) ≡ d = omega arith in
             word-found (declared w p b g) (d - 1) (sym (declared-read t g c d row ec z ed) ∙ sym i)
 
-        pub label_after : g ≤ d - 1 → 0 ≡ word (earlier w p b g)
-        label_after h = sym (ap word (earlier-after w p b g (d - 1) label h))
+        pub label_after : g ≤ d - 1 → none ≡ earlier w p b g
+        label_after h = sym (earlier-after w p b g (d - 1) label h)
 
         module _ (h : d - 1 < g) (l : ℕ) (el : l ≡ get_or ls (d - 1) 0) where
           label-list : l ≡ word (list_of w (d - 1))
@@ -79,10 +79,10 @@ module _ {w p b cs ds ls : List ℕ} {g : ℕ} (t : Tables w p b cs ds ls (suc g
               let s = (labels-canon t.body g (d - 1) row m i.1).0 in
               el ∙ list_read t (d - 1) (omega arith) m (rw s)
 
-          pub no-list : l ≡ 0 → 0 ≡ word (earlier w p b g)
+          pub no-list : l ≡ 0 → none ≡ earlier w p b g
           no-list x = case-found (list_of w (d - 1))
               (λ k e. let f = label-list ∙ ap word e in absurd (omega arith))
-              (λ e. sym (ap word (earlier-outside w p b g (d - 1) label (list-none w (d - 1) g e))))
+              (λ e. sym (earlier-outside w p b g (d - 1) label (list-none w (d - 1) g e)))
 
           list-row : l ≤ d - 1
           list-row = omega (arith, list-before t (d - 1) (omega arith))
@@ -101,15 +101,14 @@ module _ {w p b cs ds ls : List ℕ} {g : ℕ} (t : Tables w p b cs ds ls (suc g
                 let r : l - 1 < row_count w = omega (arith, list-row) in
                 omega (arith, t.body.sized.within (l - 1) r, t.body.most_rows)
 
-            pub list-ended : l - 1 + s ≤ g → 0 ≡ word (earlier w p b g)
+            pub list-ended : l - 1 + s ≤ g → none ≡ earlier w p b g
             list-ended k =
                 let f : in_list_of w (d - 1) g ≡ false = list-some w (d - 1) g (l - 1) found-list
                 ∙ rw (lt-ltb (l - 1) g (omega (arith, list-row)), le-ltb g (end w (l - 1)) (omega arith)) in
-                sym (ap word (earlier-outside w p b g (d - 1) label f))
+                sym (earlier-outside w p b g (d - 1) label f)
 
-            pub list-around : g < l - 1 + s → d ≡ word (earlier w p b g)
+            pub list-around : g < l - 1 + s → some (d - 1) ≡ earlier w p b g
             list-around k =
                 let f : in_list_of w (d - 1) g ≡ true = list-some w (d - 1) g (l - 1) found-list
                 ∙ rw (lt-ltb (l - 1) g (omega (arith, list-row)), lt-ltb g (end w (l - 1)) (omega arith)) in
-                let e = ap word (earlier-is w p b g (d - 1) label h f) in
-                omega arith
+                sym (earlier-is w p b g (d - 1) label h f)

@@ -1,9 +1,9 @@
 use mathlib.Core.Path.{◌≡◌, sym}
 use mathlib.Core.Bool.{true, false}
 use mathlib.Core.List.{List}
-use Prim.Native.Nat.{ℕ, ◌+◌, ◌*◌, ◌<◌, ◌≤◌}
+use Prim.Native.Nat.{ℕ, ◌+◌, ◌<◌, ◌≤◌}
 use native.Mathlib.Omega.{arith}
-use borrow.Author.Count.{below_none, below_more}
+use borrow.Author.Count.{below_more}
 use borrow.Author.Tests.{eq-eqb, ne_eqb, lt-ltb}
 use Rattle.rules.specs.Rows.{row_count, size, end}
 use Rattle.rules.specs.Refusals.{bad_size}
@@ -24,33 +24,18 @@ module _ (w : List ℕ) (r s : ℕ) (e : s ≡ size w r) where
     good-size : r + s ≤ row_count w → bad_size w r ≡ false
     good-size h = right-size w r (omega arith) (omega arith)
 
-pub loop-r-init : goal.loop-r-init
-loop-r-init c = (omega arith, below_none _)
-
-pub size-size-requires : goal.size-size-requires
-size-size-requires c = omega arith
-
 pub returns-then-size-eq0 : goal.returns-then-size-eq0
 returns-then-size-eq0 c =
-    sym (found-lowest _ _ _ c.loop-r-test.true (no_rows _ _ _ c.size-size.ensures c.if-size-eq0.true) c.loop-r.invariant.1)
-
-pub overflow_add-r : goal.overflow_add-r
-overflow_add-r c = omega (arith, c.shared_slice_known-1.given (c.loop-r.r * 5 + 4))
+    sym (found-lowest _ _ _ c.loop-r-test.true (no_rows _ _ _ c.size-size.ensures c.if-size-eq0.true) c.loop-r.invariant)
 
 pub returns-then-count-r : goal.returns-then-count-r
 returns-then-count-r c =
     sym (found-lowest _ _ _ c.loop-r-test.true
-    (past-rows _ _ _ c.size-size.ensures c.if-size-eq0.false c.if-count-r.true) c.loop-r.invariant.1)
-
-pub overflow_add-r-in-loop-r : goal.overflow_add-r-in-loop-r
-overflow_add-r-in-loop-r c = omega arith
-
-pub loop-r-smaller : goal.loop-r-smaller
-loop-r-smaller c = omega arith
+    (past-rows _ _ _ c.size-size.ensures c.if-size-eq0.false c.if-count-r.true) c.loop-r.invariant)
 
 pub loop-r-preserved : goal.loop-r-preserved
 loop-r-preserved c =
-    (omega arith, below_more _ _ c.loop-r.invariant.1 (good-size _ _ _ c.size-size.ensures c.if-size-eq0.false c.if-count-r.false))
+    below_more _ _ c.loop-r.invariant (good-size _ _ _ c.size-size.ensures c.if-size-eq0.false c.if-count-r.false)
 
 pub returns : goal.returns
-returns c = sym (none-lowest _ _ (λ k l. c.loop-r.invariant.1 k (omega arith)))
+returns c = sym (none-lowest _ _ (λ k l. c.loop-r.invariant k (omega arith)))

@@ -78,9 +78,9 @@ pub returns-then-bad_name_words : goal.returns-then-bad_name_words
 returns-then-bad_name_words c =
     sym (refused-at _ _ _ 1 0 (good-1 _ (sym c.if-bad_row_words.ensures), tt) (bad-2 _ _ (sym c.if-bad_name_words.ensures)))
 
-pub returns-in-At : goal.returns-in-At
-returns-in-At c =
-    sym (refused-at _ _ _ 2 _ (before-3 _ _ _ c.if-bad_row_words.ensures c.if-bad_name_words.ensures) (is-3 _ _ ∙ sym c.in-At.ensures))
+pub returns-in-Some : goal.returns-in-Some
+returns-in-Some c =
+    sym (refused-at _ _ _ 2 _ (before-3 _ _ _ c.if-bad_row_words.ensures c.if-bad_name_words.ensures) (is-3 _ _ ∙ sym c.in-Some.ensures))
 
 pub well_formed_rows-requires : goal.well_formed_rows-requires
 well_formed_rows-requires c = let f = row_words _ (sym c.if-bad_row_words.ensures) in (f.some_rows, f.most_rows)
@@ -90,25 +90,25 @@ returns-then-well_formed_rows c =
     sym (right-accepted _ _ _ (before-4 _ _ _ c.if-bad_row_words.ensures c.if-bad_name_words.ensures c.in_default.ensures)
     (c.well_formed_rows.ensures c.if-well_formed_rows.true))
 
-pub returns-in-At-first_bad_row : goal.returns-in-At-first_bad_row
-returns-in-At-first_bad_row c =
+pub returns-in-Some-first_bad_row : goal.returns-in-Some-first_bad_row
+returns-in-Some-first_bad_row c =
     sym (refused-at _ _ _ 3 _ (before-4 _ _ _ c.if-bad_row_words.ensures c.if-bad_name_words.ensures c.in_default.ensures)
-    (is-4 _ _ ∙ sym c.in-At-first_bad_row.ensures))
+    (is-4 _ _ ∙ sym c.in-Some-first_bad_row.ensures))
 
-pub returns-in-At-first_bad_size : goal.returns-in-At-first_bad_size
-returns-in-At-first_bad_size c =
+pub returns-in-Some-first_bad_size : goal.returns-in-Some-first_bad_size
+returns-in-Some-first_bad_size c =
     sym (refused-at _ _ _ 4 _
     (before-5 _ _ _ c.if-bad_row_words.ensures c.if-bad_name_words.ensures c.in_default.ensures c.in_default-first_bad_row.ensures)
-    (bad-size-5 _ _ (sym c.in-At-first_bad_size.ensures)))
+    (bad-size-5 _ _ (sym c.in-Some-first_bad_size.ensures)))
 
 pub first_bad_shape-requires : goal.first_bad_shape-requires
 first_bad_shape-requires c = sized_detailed _ _ c.in_default-first_bad_row.ensures c.in_default-first_bad_size.ensures
 
-pub returns-in-At-first_bad_shape : goal.returns-in-At-first_bad_shape
-returns-in-At-first_bad_shape c =
+pub returns-in-Some-first_bad_shape : goal.returns-in-Some-first_bad_shape
+returns-in-Some-first_bad_shape c =
     sym (refused-at _ _ _ 4 _
     (before-5 _ _ _ c.if-bad_row_words.ensures c.if-bad_name_words.ensures c.in_default.ensures c.in_default-first_bad_row.ensures)
-    (is-5 _ (sym c.in_default-first_bad_size.ensures) ∙ sym c.in-At-first_bad_shape.ensures))
+    (is-5 _ (sym c.in_default-first_bad_size.ensures) ∙ sym c.in-Some-first_bad_shape.ensures))
 
 pub first_second_default-requires : goal.first_second_default-requires
 first_second_default-requires c =
@@ -119,24 +119,24 @@ first_second_default-requires c =
       inside _ _ c.in_default-first_bad_row.ensures c.in_default-first_bad_size.ensures c.in_default-first_bad_shape.ensures,
     )
 
-pub returns-in-At-first_second_default : goal.returns-in-At-first_second_default
-returns-in-At-first_second_default c =
+pub returns-in-Some-first_second_default : goal.returns-in-Some-first_second_default
+returns-in-Some-first_second_default c =
     sym (refused-at _ _ _ 5 _
     (before-6 _ _ _ c.if-bad_row_words.ensures c.if-bad_name_words.ensures c.in_default.ensures c.in_default-first_bad_row.ensures
     c.in_default-first_bad_size.ensures c.in_default-first_bad_shape.ensures)
-    (sym c.in-At-first_second_default.ensures))
+    (sym c.in-Some-first_second_default.ensures))
 
 pub first_too_deep-requires : goal.first_too_deep-requires
 first_too_deep-requires c =
     let f = sized_detailed _ _ c.in_default-first_bad_row.ensures c.in_default-first_bad_size.ensures in
     (f.0, (row_words _ (sym c.if-bad_row_words.ensures)).most_rows)
 
-pub returns-in-At-first_too_deep : goal.returns-in-At-first_too_deep
-returns-in-At-first_too_deep c =
+pub returns-in-Some-first_too_deep : goal.returns-in-Some-first_too_deep
+returns-in-Some-first_too_deep c =
     sym (refused-at _ _ _ 6 _
     (before-7 _ _ _ c.if-bad_row_words.ensures c.if-bad_name_words.ensures c.in_default.ensures c.in_default-first_bad_row.ensures
     c.in_default-first_bad_size.ensures c.in_default-first_bad_shape.ensures c.in_default-first_second_default.ensures)
-    (sym c.in-At-first_too_deep.ensures))
+    (sym c.in-Some-first_too_deep.ensures))
 
 pub returns : goal.returns
 returns c =

@@ -7,13 +7,13 @@ use Rattle.breaks.proofs.Search.{Walk}
 use Rattle.breaks.proofs.+has_break_has_break_list.Given as goal
 
 abbrev pub decreases-has_break : goal.decreases-has_break
-decreases-has_break l = 2 * size l.rows.now l.row.0
+decreases-has_break l = 2 * size l.body.rows.now l.row.0
 
 abbrev pub decreases-has_break_list : goal.decreases-has_break_list
 decreases-has_break_list l = 2 * (l.end - l.from.0) + 1
 
 abbrev pub invariant-has_break_list-loop-c : goal.invariant-has_break_list-loop-c
-invariant-has_break_list-loop-c l = Walk l.rows l.pairs l.bytes l.end l.label.0 l.implicit l.initial.c l.c
+invariant-has_break_list-loop-c l = Walk l.body.rows.now l.body.pairs.now l.body.bytes.now l.end l.label.0 l.implicit l.initial.c l.c
 
 abbrev pub decreases-has_break_list-loop-c : goal.decreases-has_break_list-loop-c
 decreases-has_break_list-loop-c l = l.end - l.c

@@ -12,6 +12,7 @@ use Rattle.rules.specs.Names.{same_name}
 use Rattle.rules.specs.Labels.{is_class}
 use Rattle.breaks.specs.Leaves.{leaves}
 use Rattle.breaks.proofs.ByWords.{break-detail}
+use Rattle.body.proofs.Facts.{facts_of}
 use Rattle.breaks.proofs.Leaving.{own-other, own-plain, own-unnamed, own-named}
 use Rattle.breaks.proofs.is_break.Goals as goal
 
@@ -39,18 +40,18 @@ module _ (w p b : List ℕ) (r label : ℕ) (implicit : Bool) (allowed : detail_
 
 pub returns-then-detail-ne-BREAK : goal.returns-then-detail-ne-BREAK
 returns-then-detail-ne-BREAK c =
-    other _ _ _ _ _ _ (c.requires.0.details _ c.requires.1) c.requires.2 c.detail.ensures c.if-detail-ne-BREAK.true
+    other _ _ _ _ _ _ ((facts_of c.args.body).details _ c.requires.0) c.requires.1 c.detail.ensures c.if-detail-ne-BREAK.true
 
 pub returns-then-name-eq0 : goal.returns-then-name-eq0
 returns-then-name-eq0 c =
-    plain _ _ _ _ _ _ (c.requires.0.details _ c.requires.1) c.requires.2 c.detail.ensures c.if-detail-ne-BREAK.false c.name-name.ensures c.if-name-eq0.true
+    plain _ _ _ _ _ _ ((facts_of c.args.body).details _ c.requires.0) c.requires.1 c.detail.ensures c.if-detail-ne-BREAK.false c.name-name.ensures c.if-name-eq0.true
 
 pub returns-then-label-eq0 : goal.returns-then-label-eq0
 returns-then-label-eq0 c =
-    unnamed _ _ _ _ _ _ (c.requires.0.details _ c.requires.1) c.requires.2 c.detail.ensures c.if-detail-ne-BREAK.false c.name-name.ensures c.if-name-eq0.false
+    unnamed _ _ _ _ _ _ ((facts_of c.args.body).details _ c.requires.0) c.requires.1 c.detail.ensures c.if-detail-ne-BREAK.false c.name-name.ensures c.if-name-eq0.false
     c.if-label-eq0.true
 
 pub returns : goal.returns
 returns c =
-    named _ _ _ _ _ _ (c.requires.0.details _ c.requires.1) c.requires.2 c.detail.ensures c.if-detail-ne-BREAK.false c.name-name.ensures c.if-name-eq0.false
-    c.if-label-eq0.false c.same_name.ensures
+    named _ _ _ _ _ _ ((facts_of c.args.body).details _ c.requires.0) c.requires.1 c.detail.ensures c.if-detail-ne-BREAK.false c.name-name.ensures c.if-name-eq0.false
+    c.if-label-eq0.false (rw (c.names.ensures.0, c.names.ensures.1) at c.same.ensures)

@@ -6,25 +6,22 @@ use Rattle.destinations.proofs.destinations_of.Goals as goal
 
 pub enclosing_of-requires : goal.enclosing_of-requires
 enclosing_of-requires c =
-    let body = formed c.requires.faultless.0 in
+    let body = formed c.args.faultless.faultless in
     let few = body.most_rows in
     record { formed = ((_, _, body), c.requires.parents.0, c.requires.rows_in_bounds.0); rows_in_bounds = (few, few, few) }
 
-pub write_destinations-requires : goal.write_destinations-requires
-write_destinations-requires c =
-    let few = (formed c.requires.faultless.0).most_rows in
+pub write_destinations-requires-clause-tables : goal.write_destinations-requires-clause-tables
+write_destinations-requires-clause-tables c =
+    let few = (formed c.args.faultless.faultless).most_rows in
     let around = c.enclosing_of.ensures in record {
-      tables = record {
-        faultless = c.requires.faultless.0;
-        bound = c.requires.faultless.1;
-        afters_room = c.requires.rows_in_bounds.1;
-        after_rows = c.requires.parents.1;
-        breakables_room = search rules;
-        breakable_rows = around.breakables;
-        loops_room = search rules;
-        loop_rows = around.loops;
-        cases_room = search rules;
-        case_rows = around.cases;
-      };
-      rows_in_bounds = c.requires.rows_in_bounds.2;
+      faultless = c.args.faultless.faultless;
+      bound = c.args.faultless.bound;
+      afters_room = c.requires.rows_in_bounds.1;
+      after_rows = c.requires.parents.1;
+      breakables_room = search rules;
+      breakable_rows = around.breakables;
+      loops_room = search rules;
+      loop_rows = around.loops;
+      cases_room = search rules;
+      case_rows = around.cases;
     }

@@ -1,20 +1,9 @@
 use mathlib.Core.Path.{sym, ◌∙◌}
-use mathlib.Core.Bool.{false}
 use native.Mathlib.Omega.{arith}
-use borrow.Author.Rules.{rules}
-use borrow.Author.Tests.{not-true, not-false}
+use borrow.Author.Tests.{not-true}
 use Rattle.input.proofs.Lengths.{not_last, less-left}
-use Rattle.filter.proofs.Whole.{begun, one_more, counted}
+use Rattle.filter.proofs.Whole.{one_more}
 use Rattle.filter.proofs.whole_length.Goals as goal
-
-pub loop-input-init : goal.loop-input-init
-loop-input-init g c = (search rules, c.requires, λ p. begun _ _ _ p)
-
-pub read_on-input-requires : goal.read_on-input-requires
-read_on-input-requires g c = (
-  c.loop-input.invariant.1 (not-true _ c.loop-input-test.true),
-  omega (arith, c.in_ok-got.ensures.bound.0),
-)
 
 pub loop-input-smaller : goal.loop-input-smaller
 loop-input-smaller g c =
@@ -27,6 +16,3 @@ loop-input-preserved g c = (
   λ e. rw c.read_on-input.ensures.length (not_last _ _ (sym c.read_on-input.ensures.ended ∙ e)),
   λ p. one_more _ _ _ _ _ _ c.in_ok-got.got 65536 _ _ _ (c.loop-input.invariant.2 p) c.in_ok-got.ensures.bytes c.in_ok-got.ensures.bound.1 (λ h. c.in_ok-got.ensures.end (omega arith)) c.read_on-input.ensures.length c.read_on-input.ensures.ended,
 )
-
-pub returns : goal.returns
-returns g c = λ p. counted _ _ _ _ _ (c.loop-input.invariant.2 p) (not-false _ c.loop-input-test.false)

@@ -1,6 +1,6 @@
 -- A labelled break or continue with a valid target is bound to its declared label; else one fault is put, which has its room.
 -- Assumes nothing.
-use mathlib.Core.Path.{refl, sym, ◌∙◌, ap}
+use mathlib.Core.Path.{sym, ◌∙◌, ap}
 use Prim.Native.Nat.{ℕ, ◌+◌}
 use native.Mathlib.Omega.{arith}
 use Rattle.walk_state.proofs.TableRows.{canon-place, declared-place}
@@ -15,25 +15,22 @@ pub canon_of-c-requires : goal.canon_of-c-requires
 canon_of-c-requires c =
     (c.requires.row_bound.0, canon-place c.requires.tables _ c.requires.row_bound.0)
 
-pub offset_bounds-label_rows-c : goal.offset_bounds-label_rows-c
-offset_bounds-label_rows-c c =
+pub offset_bounds-tables-c : goal.offset_bounds-tables-c
+offset_bounds-tables-c c =
     omega (arith, declared-place c.requires.tables _ _ c.requires.row_bound.0 c.canon_of-c.ensures)
 
-pub bounds-label_rows-c : goal.bounds-label_rows-c
-bounds-label_rows-c c =
+pub bounds-tables-c : goal.bounds-tables-c
+bounds-tables-c c =
     declared-place c.requires.tables _ _ c.requires.row_bound.0 c.canon_of-c.ensures
-
-pub overflow_cast-bindings : goal.overflow_cast-bindings
-overflow_cast-bindings c = omega (arith, c.type_inv.label_rows c.canon_of-c.result)
 
 pub returns-then-valid_target : goal.returns-then-valid_target
 returns-then-valid_target c =
-    break-bound c.requires.tables _ _ _ _ _ _ c.requires.row_bound.0 c.requires.walking c.requires.row_bound.1 c.requires.row_bound.2 _ _ c.canon_of-c.ensures refl
+    break-bound c.requires.tables _ _ _ _ _ _ c.requires.row_bound.0 c.requires.walking c.requires.row_bound.1 c.requires.row_bound.2 _ _ c.canon_of-c.ensures c.from.ensures
     (sym c.if-valid_target.true ∙ c.valid_target.ensures)
 
 pub overflow_add-code : goal.overflow_add-code
 overflow_add-code c =
-    omega (arith, break-detail c.args.rows.now _ (c.requires.tables.body.details _ c.requires.row_bound.0) c.requires.row_bound.1, c.detail-code.ensures)
+    omega (arith, break-detail c.args.body.rows.now _ (c.requires.tables.body.details _ c.requires.row_bound.0) c.requires.row_bound.1, c.detail-code.ensures)
 
 pub put-requires : goal.put-requires
 put-requires c = (

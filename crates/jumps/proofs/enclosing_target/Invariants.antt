@@ -5,7 +5,7 @@ use Rattle.jumps.proofs.ListClimb.{Climbing}
 use Rattle.jumps.proofs.enclosing_target.Given as goal
 
 abbrev pub invariant-loop-list : goal.invariant-loop-list
-invariant-loop-list l = Climbing l.rows l.pairs l.bytes l.c l.r l.list
+invariant-loop-list l = Climbing l.body.rows.now l.body.pairs.now l.body.bytes.now l.c l.r l.list
 
 abbrev pub decreases-loop-list : goal.decreases-loop-list
 decreases-loop-list l = l.list

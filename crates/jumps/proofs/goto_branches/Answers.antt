@@ -2,16 +2,20 @@
 -- Assumes nothing.
 use native.Mathlib.Omega.{arith}
 use Rattle.walk_state.proofs.TableRows.{canon-place}
-use Rattle.jumps.proofs.BranchSteps.{label_small, goto-bound, goto-blank, goto-place, goto-pending}
+use Rattle.jumps.proofs.BranchSteps.{head-place, label_small, goto-bound, goto-blank, goto-pending}
 use Rattle.jumps.proofs.goto_branches.Goals as goal
+
+pub overflow_add-bindings : goal.overflow_add-bindings
+overflow_add-bindings c =
+    omega (arith, label_small c.requires.tables _ _ _ _ _ _ c.requires.row_bound.0 c.requires.walking c.requires.row_bound.1 _ c.in-Some.ensures)
 
 pub overflow_cast-bindings : goal.overflow_cast-bindings
 overflow_cast-bindings c =
-    omega (arith, label_small c.requires.tables _ _ _ _ _ _ c.requires.row_bound.0 c.requires.walking c.requires.row_bound.1 _ c.goto_target-label.ensures)
+    omega (arith, label_small c.requires.tables _ _ _ _ _ _ c.requires.row_bound.0 c.requires.walking c.requires.row_bound.1 _ c.in-Some.ensures)
 
-pub returns-then-label-ne0 : goal.returns-then-label-ne0
-returns-then-label-ne0 c =
-    goto-bound c.requires.tables _ _ _ _ _ _ c.requires.row_bound.0 c.requires.walking c.requires.row_bound.1 _ c.goto_target-label.ensures c.if-label-ne0.true
+pub returns-in-Some : goal.returns-in-Some
+returns-in-Some c =
+    goto-bound c.requires.tables _ _ _ _ _ _ c.requires.row_bound.0 c.requires.walking c.requires.row_bound.1 _ c.in-Some.ensures
 
 pub canon_of-c-requires : goal.canon_of-c-requires
 canon_of-c-requires c =
@@ -19,44 +23,26 @@ canon_of-c-requires c =
 
 pub offset_bounds-heads-c : goal.offset_bounds-heads-c
 offset_bounds-heads-c c =
-    omega (
-      arith,
-      goto-place c.requires.tables
-          _ _ _ _ _ _ c.requires.row_bound.0
-          c.requires.walking
-          c.requires.row_bound.1 _
-          c.goto_target-label.ensures
-          c.if-label-ne0.false _
-          c.canon_of-c.ensures,
-    )
+    omega (arith, head-place c.requires.tables _ _ _ _ _ _ c.requires.row_bound.0 c.requires.walking _ c.canon_of-c.ensures)
 
 pub bounds-heads-c : goal.bounds-heads-c
 bounds-heads-c c =
-    goto-place c.requires.tables _ _ _ _ _ _ c.requires.row_bound.0 c.requires.walking c.requires.row_bound.1 _ c.goto_target-label.ensures c.if-label-ne0.false _ c.canon_of-c.ensures
+    head-place c.requires.tables _ _ _ _ _ _ c.requires.row_bound.0 c.requires.walking _ c.canon_of-c.ensures
 
 pub offset_bounds-heads-c-then-c-ne0 : goal.offset_bounds-heads-c-then-c-ne0
 offset_bounds-heads-c-then-c-ne0 c =
-    omega (
-      arith,
-      goto-place c.requires.tables
-          _ _ _ _ _ _ c.requires.row_bound.0
-          c.requires.walking
-          c.requires.row_bound.1 _
-          c.goto_target-label.ensures
-          c.if-label-ne0.false _
-          c.canon_of-c.ensures,
-    )
+    omega (arith, head-place c.requires.tables _ _ _ _ _ _ c.requires.row_bound.0 c.requires.walking _ c.canon_of-c.ensures)
 
 pub bounds-heads-c-then-c-ne0 : goal.bounds-heads-c-then-c-ne0
 bounds-heads-c-then-c-ne0 c =
-    goto-place c.requires.tables _ _ _ _ _ _ c.requires.row_bound.0 c.requires.walking c.requires.row_bound.1 _ c.goto_target-label.ensures c.if-label-ne0.false _ c.canon_of-c.ensures
+    head-place c.requires.tables _ _ _ _ _ _ c.requires.row_bound.0 c.requires.walking _ c.canon_of-c.ensures
 
 pub returns-then-c-ne0 : goal.returns-then-c-ne0
 returns-then-c-ne0 c =
-    goto-pending c.requires.tables _ _ _ _ _ _ c.requires.row_bound.0 c.requires.walking c.requires.row_bound.1 _ c.goto_target-label.ensures c.if-label-ne0.false _ c.canon_of-c.ensures
+    goto-pending c.requires.tables _ _ _ _ _ _ c.requires.row_bound.0 c.requires.walking c.requires.row_bound.1 c.in_default.ensures _ c.canon_of-c.ensures
     c.if-c-ne0.true
 
 pub returns-else-c-ne0 : goal.returns-else-c-ne0
 returns-else-c-ne0 c =
-    goto-blank c.requires.tables _ _ _ _ _ _ c.requires.row_bound.0 c.requires.walking c.requires.row_bound.1 _ c.goto_target-label.ensures c.if-label-ne0.false _ c.canon_of-c.ensures
+    goto-blank c.requires.tables _ _ _ _ _ _ c.requires.row_bound.0 c.requires.walking c.requires.row_bound.1 c.in_default.ensures _ c.canon_of-c.ensures
     c.if-c-ne0.false

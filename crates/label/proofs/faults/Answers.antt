@@ -2,35 +2,25 @@
 -- of 0 that have room for the body.
 -- Assumes nothing.
 use native.Mathlib.Omega.{arith}
+use Rattle.body.proofs.Facts.{facts_of}
+use Rattle.label_rest.proofs.LeftRows.{pair-most}
 use Rattle.label.proofs.NamelessRows.{no_pairs}
-use Rattle.label.proofs.CallRows.{nameless-answered, cleared-blank, answered-from}
+use Rattle.label.proofs.CallRows.{nameless-answered}
 use Rattle.label.proofs.faults.Goals as goal
+use Rattle.label.proofs.faults.Goals.{then-names-eq0-via-then-names-eq0, then-names-eq0-via-else-names-eq0+then-no_names}
 
-pub returns-then-pairs-lt2 : goal.returns-then-pairs-lt2
-returns-then-pairs-lt2 c =
-    nameless-answered c.requires.body _ _ _ (no_pairs c.requires.body (omega (arith, c.if-pairs-lt2.true))) c.requires.rows_in_bounds.1 c.clear.ensures
+pub returns-then-names-eq0 : goal.returns-then-names-eq0
+returns-then-names-eq0 c =
+    let f = facts_of c.args.body in
+    let count = rw c.names.ensures.0 at c.count-names.ensures in
+    nameless-answered f _ _ _
+    (elim c.then-names-eq0.branch [
+      | then-names-eq0-via-then-names-eq0 w ↦ no_pairs f (omega arith)
+      | then-names-eq0-via-else-names-eq0+then-no_names w ↦ w.no_names.ensures w.if-no_names.true
+    ])
+    c.requires.rows_in_bounds.1 c.clear.ensures
 
-pub returns-then-no_names : goal.returns-then-no_names
-returns-then-no_names c =
-    nameless-answered c.requires.body _ _ _ (c.no_names.ensures c.if-no_names.true) c.requires.rows_in_bounds.1 c.clear.ensures
-
-pub walk_large-requires : goal.walk_large-requires
-walk_large-requires c =
-    let k = cleared-blank _ _ _ _ c.requires.rows_in_bounds.0 c.requires.rows_in_bounds.1 c.clear.ensures in record { body = c.requires.body; blank = k }
-
-pub returns-then-rows-gt128 : goal.returns-then-rows-gt128
-returns-then-rows-gt128 c = answered-from _ _ _ _ _ _ c.clear.ensures c.walk_large.ensures
-
-pub walk_large-requires-then-pairs-gt31 : goal.walk_large-requires-then-pairs-gt31
-walk_large-requires-then-pairs-gt31 c =
-    let k = cleared-blank _ _ _ _ c.requires.rows_in_bounds.0 c.requires.rows_in_bounds.1 c.clear.ensures in record { body = c.requires.body; blank = k }
-
-pub returns-then-pairs-gt31 : goal.returns-then-pairs-gt31
-returns-then-pairs-gt31 c = answered-from _ _ _ _ _ _ c.clear.ensures c.walk_large-then-pairs-gt31.ensures
-
-pub walk_small-requires : goal.walk_small-requires
-walk_small-requires c =
-    let k = cleared-blank _ _ _ _ c.requires.rows_in_bounds.0 c.requires.rows_in_bounds.1 c.clear.ensures in record { body = (c.requires.body, omega (arith, c.if-pairs-gt31.false), c.if-rows-gt128.false); blank = k }
-
-pub returns : goal.returns
-returns c = answered-from _ _ _ _ _ _ c.clear.ensures c.walk_small.ensures
+pub walk-requires-else-names-lt32-clause-room : goal.walk-requires-else-names-lt32-clause-room
+walk-requires-else-names-lt32-clause-room c =
+    let f = facts_of c.args.body in
+    (omega (arith, pair-most f), f.most_rows)

@@ -3,94 +3,40 @@
 -- Assumes nothing.
 use native.Mathlib.Omega.{arith}
 use Rattle.walk_state.proofs.TableRows.{canon-place}
-use Rattle.label_walk.proofs.TableSteps.{blank, unlabelled, labels, label-list, labelled-fits, label-latest, labelled}
-use Rattle.label_walk.proofs.WalkSteps.{labeled-passed}
+use Rattle.label_walk.proofs.TableSteps.{blank-walked, blank-labels, labels, label-list, label-latest, labelled}
 use Rattle.label_walk.proofs.labeled_branches.Goals as goal
 
 pub canon_of-requires : goal.canon_of-requires
 canon_of-requires c =
-    (c.requires.row_bound.0, canon-place c.requires.tables _ c.requires.row_bound.0)
+    let h = c.requires.row_bound.0 in (h, canon-place c.requires.tables _ h)
 
-pub returns-then-canon_of-eq0 : goal.returns-then-canon_of-eq0
-returns-then-canon_of-eq0 c =
-    let i = c.requires.row_bound in
-    let t = c.requires.tables in
-    let no = c.if-canon_of-eq0.true in
-    let n = c.canon_of.ensures in
-    record {
-      walked = labeled-passed i.0 c.requires.walking i.1 (blank t i.0 i.1 c.requires.contexts _ n no);
-      labels = unlabelled t i.0 i.1 c.requires.contexts _ n no;
-    }
+-- ---- `_`
+pub returns-then-canon_of-eq0-clause-walked : goal.returns-then-canon_of-eq0-clause-walked
+returns-then-canon_of-eq0-clause-walked c = blank-walked c.requires c.canon_of.ensures c.if-canon_of-eq0.true
 
-pub offset_bounds-lists-r : goal.offset_bounds-lists-r
-offset_bounds-lists-r c =
-    omega (arith, c.requires.row_bound.0, c.requires.tables.body.most_rows)
+pub returns-then-canon_of-eq0-clause-labels : goal.returns-then-canon_of-eq0-clause-labels
+returns-then-canon_of-eq0-clause-labels c = blank-labels c.requires c.canon_of.ensures c.if-canon_of-eq0.true
 
-pub bounds-lists-r : goal.bounds-lists-r
-bounds-lists-r c =
-    omega (arith, c.requires.row_bound.0, c.requires.tables.lists_room)
-
+-- ---- a label
 pub context_of-requires : goal.context_of-requires
-context_of-requires c =
-    let i = c.requires.row_bound in
-    label-list c.requires.tables i.0 i.1 c.requires.contexts _ c.canon_of.ensures c.if-canon_of-eq0.false _ c.wide-list.ensures
-
-pub overflow_add-r : goal.overflow_add-r
-overflow_add-r c =
-    omega (arith, c.requires.row_bound.0, c.requires.tables.body.most_rows)
-
-pub overflow_cast-latest_labels : goal.overflow_cast-latest_labels
-overflow_cast-latest_labels c =
-    let i = c.requires.row_bound in
-    omega (
-      arith,
-      labelled-fits c.requires.tables i.0 i.1 c.requires.contexts _ c.canon_of.ensures
-          c.if-canon_of-eq0.false _ c.wide-list.ensures c.context_of.result _ c.labelled-ctx.ensures,
-    )
+context_of-requires c = label-list c.requires c.canon_of.ensures c.if-canon_of-eq0.false c.from-list.ensures
 
 pub overflow_sub-latest_labels : goal.overflow_sub-latest_labels
-overflow_sub-latest_labels c =
-    let i = c.requires.row_bound in
-    omega (
-      arith,
-      (label-list c.requires.tables i.0 i.1 c.requires.contexts _ c.canon_of.ensures
-          c.if-canon_of-eq0.false _ c.wide-list.ensures).0,
-    )
-
-pub offset_bounds-latest_labels-list : goal.offset_bounds-latest_labels-list
-offset_bounds-latest_labels-list c =
-    let i = c.requires.row_bound in
-    omega (
-      arith,
-      (label-list c.requires.tables i.0 i.1 c.requires.contexts _ c.canon_of.ensures
-          c.if-canon_of-eq0.false _ c.wide-list.ensures).1,
-    )
+overflow_sub-latest_labels c = (label-list c.requires c.canon_of.ensures c.if-canon_of-eq0.false c.from-list.ensures).0
 
 pub bounds-latest_labels-list : goal.bounds-latest_labels-list
 bounds-latest_labels-list c =
-    let i = c.requires.row_bound in
-    let l = label-list c.requires.tables i.0 i.1 c.requires.contexts _ c.canon_of.ensures
-    c.if-canon_of-eq0.false _ c.wide-list.ensures in
-    omega (arith, l.0, l.3)
+    let l = label-list c.requires c.canon_of.ensures c.if-canon_of-eq0.false c.from-list.ensures in omega (arith, l.0, l.3)
 
-pub label_branches-requires : goal.label_branches-requires
-label_branches-requires c =
-    let i = c.requires.row_bound in
-    let t = c.requires.tables in
-    let no = c.if-canon_of-eq0.false in
-    let n = c.canon_of.ensures in
-    let l = c.wide-list.ensures in
-    record {
-      tables = t;
-      walking = c.requires.walking;
-      row_bound = (i.0, labels t i.0 i.1 c.requires.contexts _ n no _ l);
-      latest_value = label-latest t i.0 i.1 c.requires.contexts _ n no _ l c.context_of.result _ c.labelled-ctx.ensures c.context_of.ensures.0;
-    }
+pub label_branches-requires-clause-row_bound : goal.label_branches-requires-clause-row_bound
+label_branches-requires-clause-row_bound c =
+    (c.requires.row_bound.0, labels c.requires c.canon_of.ensures c.if-canon_of-eq0.false)
 
-pub returns : goal.returns
-returns c =
-    let i = c.requires.row_bound in
-    record {
-      walked = c.label_branches.ensures;
-      labels = labelled c.requires.tables i.0 i.1 c.requires.contexts _ c.canon_of.ensures c.if-canon_of-eq0.false _ c.wide-list.ensures c.context_of.result _ c.labelled-ctx.ensures;
-    }
+pub label_branches-requires-clause-latest_value : goal.label_branches-requires-clause-latest_value
+label_branches-requires-clause-latest_value c =
+    label-latest c.requires c.canon_of.ensures c.if-canon_of-eq0.false c.from-list.ensures c.context_of.result c.labelled-ctx.ensures
+    c.context_of.ensures.0
+
+pub returns-clause-labels : goal.returns-clause-labels
+returns-clause-labels c =
+    labelled c.requires c.canon_of.ensures c.if-canon_of-eq0.false c.from-list.ensures c.context_of.result c.labelled-ctx.ensures

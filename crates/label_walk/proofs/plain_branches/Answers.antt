@@ -1,32 +1,55 @@
--- Each way through the code is one law of PlainRows.antt.
+-- A row of detail 1 is no Block, and its kind says whether it is a declaration; a row of another detail is no declaration, and its kind says whether it is a
+-- Block.
 -- Assumes nothing.
-use Rattle.label_walk.proofs.PlainRows.{declared-asks, declared-gives, undeclared-gives, block-asks, block-gives, other-gives}
+use mathlib.Core.Path.{sym, ◌∙◌}
+use Rattle.rows.specs.declared.kinds.Kind.TheVariants.{Block}
+use Rattle.rows.proofs.Numbers.{eq-true, eq-false}
+use Rattle.label_walk.proofs.RowWords.{is-declaration, is-block}
+use Rattle.label_walk.proofs.PlainRows.{undeclared, unlinked-block, linked-block, unlinked-detail, undeclared-detail}
 use Rattle.label_walk.proofs.plain_branches.Goals as goal
 
-pub may_declare-requires : goal.may_declare-requires
-may_declare-requires c = tt
+-- ---- detail 1
+pub decl_branches-requires-clause-row_bound : goal.decl_branches-requires-clause-row_bound
+decl_branches-requires-clause-row_bound c =
+    let h = c.requires.row_bound.0 in (
+      h,
+      is-declaration c.requires.listing.body h c.detail.ensures c.if-detail-eq-DECLARES.true c.kind_at-kind.ensures
+          (sym c.may_declare.ensures ∙ c.if-may_declare.true),
+    )
 
-pub decl_branches-requires : goal.decl_branches-requires
-decl_branches-requires c = let q = declared-asks c.requires.listing _ c.requires.row_bound.0 c.requires.contexts _ c.kind-kind.ensures _ c.detail.ensures
-    c.if-detail-eq1.true c.may_declare.ensures c.if-may_declare.true in record { listing = q.0; contexts = q.1.0; row_bound = q.1.1 }
+pub returns-then-may_declare-clause-linked : goal.returns-then-may_declare-clause-linked
+returns-then-may_declare-clause-linked c =
+    unlinked-detail c.requires c.detail.ensures c.if-detail-eq-DECLARES.true
 
-pub returns-then-may_declare : goal.returns-then-may_declare
-returns-then-may_declare c = let q = declared-gives c.requires.listing _ c.requires.row_bound.0 c.requires.contexts _ c.kind-kind.ensures _
-    c.detail.ensures c.if-detail-eq1.true c.may_declare.ensures
-    c.decl_branches.ensures in record { blocks = q.0; decls = q.1 }
+pub returns-else-may_declare-clause-linked : goal.returns-else-may_declare-clause-linked
+returns-else-may_declare-clause-linked c =
+    unlinked-detail c.requires c.detail.ensures c.if-detail-eq-DECLARES.true
 
-pub returns-else-may_declare : goal.returns-else-may_declare
-returns-else-may_declare c = let q = undeclared-gives c.requires.listing _ c.requires.row_bound.0 c.requires.contexts _ c.kind-kind.ensures _ c.detail.ensures
-    c.if-detail-eq1.true c.may_declare.ensures c.if-may_declare.false in record { blocks = q.0; decls = q.1 }
+pub returns-else-may_declare-clause-decls : goal.returns-else-may_declare-clause-decls
+returns-else-may_declare-clause-decls c =
+    undeclared c.requires c.kind_at-kind.ensures c.may_declare.ensures
+    c.if-may_declare.false
 
-pub set_block_label-requires : goal.set_block_label-requires
-set_block_label-requires c = let q = block-asks c.requires.listing _ c.requires.row_bound.0 c.requires.contexts _ c.kind-kind.ensures _ c.detail.ensures
-    c.args.goto_or_label.now c.requires.row_bound.1 c.if-kind-eq-BLOCK.true in record { listing = q.0; list_table = q.1.0; row_bound = q.1.1 }
+-- ---- another detail
+pub set_block_label-requires-clause-row_bound : goal.set_block_label-requires-clause-row_bound
+set_block_label-requires-clause-row_bound c =
+    let (h, room) = c.requires.row_bound in
+    (h, is-block c.requires.listing.body h (eq-true _ Block c.kind_at-kind.ensures (sym c.if-eq.true ∙ c.eq.ensures)), room)
 
-pub returns-then-kind-eq-BLOCK : goal.returns-then-kind-eq-BLOCK
-returns-then-kind-eq-BLOCK c = let q = block-gives c.requires.listing _ c.requires.row_bound.0 c.requires.contexts _ c.kind-kind.ensures _
-    c.detail.ensures c.if-detail-eq1.false c.if-kind-eq-BLOCK.true c.set_block_label.ensures in record { blocks = q.0; decls = q.1 }
+pub returns-then-eq-clause-linked : goal.returns-then-eq-clause-linked
+returns-then-eq-clause-linked c =
+    linked-block c.requires
+    (eq-true _ Block c.kind_at-kind.ensures (sym c.if-eq.true ∙ c.eq.ensures)) c.set_block_label.ensures
 
-pub returns-else-kind-eq-BLOCK : goal.returns-else-kind-eq-BLOCK
-returns-else-kind-eq-BLOCK c = let q = other-gives c.requires.listing _ c.requires.row_bound.0 c.requires.contexts _ c.kind-kind.ensures _ c.detail.ensures
-    c.if-detail-eq1.false c.if-kind-eq-BLOCK.false in record { blocks = q.0; decls = q.1 }
+pub returns-then-eq-clause-decls : goal.returns-then-eq-clause-decls
+returns-then-eq-clause-decls c =
+    undeclared-detail c.requires c.detail.ensures c.if-detail-eq-DECLARES.false
+
+pub returns-else-eq-clause-linked : goal.returns-else-eq-clause-linked
+returns-else-eq-clause-linked c =
+    unlinked-block c.requires
+    (eq-false _ Block c.kind_at-kind.ensures (sym c.if-eq.false ∙ c.eq.ensures))
+
+pub returns-else-eq-clause-decls : goal.returns-else-eq-clause-decls
+returns-else-eq-clause-decls c =
+    undeclared-detail c.requires c.detail.ensures c.if-detail-eq-DECLARES.false

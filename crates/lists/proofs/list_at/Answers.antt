@@ -9,14 +9,6 @@ returns-then-r-before c =
     let h = c.requires.sized.1 in
     (open_kept _ _ _ h.0 _ h.1 c.if-r-before.true, h.1)
 
-pub still_open-list-requires : goal.still_open-list-requires
-still_open-list-requires c =
-    let q = c.requires.sized in
-    record { sized = (q.0, q.1.0, q.2); r_bound = c.requires.r_bound }
-
 pub end_of-end-requires : goal.end_of-end-requires
 end_of-end-requires c =
     (c.requires.sized.0, omega (arith, c.requires.r_bound, (open-found _ _ _ c.still_open-list.ensures).before))
-
-pub returns : goal.returns
-returns c = (c.still_open-list.ensures, c.end_of-end.ensures)

@@ -6,14 +6,10 @@ use Rattle.lists.proofs.Opened.{open-reaches, open-empty, open-outer}
 use Rattle.lists.proofs.still_open.Goals as goal
 
 -- where the row in hand has ended, the row around it is next
-next : (c : goal.After-wide-open) → Open c.args.rows.now c.wide-open.result c.args.r × (c.wide-open.result < c.loop-open.open)
+next : (c : goal.After-from-open) → Open c.args.rows.now c.from-open.result c.args.r × (c.from-open.result < c.loop-open.open)
 next c =
     open-outer _ _ _ c.loop-open.invariant _ c.loop-open-test.true (omega (arith, c.size.ensures))
-    (c.wide-open.ensures ∙ c.requires.sized.2 (c.loop-open.open - 1) (omega arith))
-
-pub overflow_add-row : goal.overflow_add-row
-overflow_add-row c =
-    omega (arith, c.requires.sized.0.within (c.loop-open.open - 1) (omega arith))
+    (c.from-open.ensures ∙ c.requires.sized.2 (c.loop-open.open - 1) (omega arith))
 
 pub returns-then-r-row : goal.returns-then-r-row
 returns-then-r-row c =

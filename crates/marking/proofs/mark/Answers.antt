@@ -1,15 +1,16 @@
--- What `refusal_of` found is the refusal, with both as they were lent; a well-formed body is marked.
+-- A refused body is answered with its refusal, with both as they were lent; of a well-formed one `marks_of` answers.
 -- Assumes nothing.
-use mathlib.Core.Path.{sym, ◌∙◌, ap}
-use Rattle.body.specs.Given.{given}
+use Rattle.std.proofs.lemmas.Result.{err_from_is_err_and}
 use Rattle.marking.proofs.Together.{refusal-marked}
 use Rattle.marking.proofs.mark.Goals as goal
 
-pub marks_of-requires : goal.marks_of-requires
-marks_of-requires c =
-    sym c.refusal_of.ensures ∙ ap given c.in-WellFormed.is
+pub returns-in_err-new-clause-answer : goal.returns-in_err-new-clause-answer
+returns-in_err-new-clause-answer c =
+    let p = err_from_is_err_and c.from_residual.result c.from_residual.ensures.1 in
+    rw (p.1, p.2) (refusal-marked _ _ _ _ _ _ c.in_err-new.ensures.answer).0
 
-pub returns-in-Refused : goal.returns-in-Refused
-returns-in-Refused c =
-    let q = refusal-marked _ _ _ _ _ _ (sym (ap given c.in-Refused.is) ∙ c.refusal_of.ensures) in
-    record { answer = q.0; sheet = q.1.0; bindings = q.1.1 }
+pub returns-in_err-new-clause-sheet : goal.returns-in_err-new-clause-sheet
+returns-in_err-new-clause-sheet c = (refusal-marked _ _ _ _ _ _ c.in_err-new.ensures.answer).1.0
+
+pub returns-in_err-new-clause-bindings : goal.returns-in_err-new-clause-bindings
+returns-in_err-new-clause-bindings c = (refusal-marked _ _ _ _ _ _ c.in_err-new.ensures.answer).1.1

@@ -1,5 +1,3 @@
-use Prim.Native.Nat.{◌+◌, ◌-◌, ◌*◌}
-use native.Mathlib.Omega.{arith}
 use Rattle.names.proofs.Passed.{passed_none, passed-all, passed-next, empty-found, early-found, long-found}
 use Rattle.names.proofs.first_bad_pair.Goals as goal
 
@@ -7,29 +5,19 @@ pub loop-i-init : goal.loop-i-init
 loop-i-init c = passed_none _ _
 
 pub returns-then-len-eq0 : goal.returns-then-len-eq0
-returns-then-len-eq0 c =
-    empty-found _ _ _ _ _ _ c.loop-i.invariant c.loop-i-test.true c.wide-offset.ensures c.wide-len.ensures
-    c.if-len-eq0.true
+returns-then-len-eq0 c = empty-found _ _ _ _ c.loop-i.invariant c.loop-i-test.true c.if-len-eq0.true
 
 pub returns-then-offset-previous_end : goal.returns-then-offset-previous_end
 returns-then-offset-previous_end c =
-    early-found _ _ _ _ _ _ c.loop-i.invariant c.loop-i-test.true c.wide-offset.ensures c.wide-len.ensures
-    c.if-len-eq0.false c.if-offset-previous_end.true
-
-pub overflow_add-end : goal.overflow_add-end
-overflow_add-end c =
-    let i = c.loop-i.i in
-    omega (arith, c.shared_slice_known-in-loop-i-1.given (i * 2), c.shared_slice_known-in-loop-i-2-1.given (i * 2 + 1))
+    early-found _ _ _ _ c.loop-i.invariant c.loop-i-test.true c.if-len-eq0.false c.if-offset-previous_end.true
 
 pub returns-then-bytes-end : goal.returns-then-bytes-end
 returns-then-bytes-end c =
-    long-found _ _ _ _ _ _ c.loop-i.invariant c.loop-i-test.true c.wide-offset.ensures c.wide-len.ensures
-    c.if-len-eq0.false c.if-offset-previous_end.false c.if-bytes-end.true
+    long-found _ _ _ _ c.loop-i.invariant c.loop-i-test.true c.if-len-eq0.false c.if-offset-previous_end.false c.if-bytes-end.true
 
 pub loop-i-preserved : goal.loop-i-preserved
 loop-i-preserved c =
-    passed-next _ _ _ _ _ _ c.loop-i.invariant c.loop-i-test.true c.wide-offset.ensures c.wide-len.ensures
-    c.if-len-eq0.false c.if-offset-previous_end.false c.if-bytes-end.false
+    passed-next _ _ _ _ c.loop-i.invariant c.loop-i-test.true c.if-len-eq0.false c.if-offset-previous_end.false c.if-bytes-end.false
 
 pub returns : goal.returns
 returns c = passed-all _ _ _ _ c.loop-i.invariant c.loop-i-test.false

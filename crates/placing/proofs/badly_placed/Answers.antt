@@ -2,22 +2,22 @@
 -- Assumes nothing.
 use mathlib.Core.Path.{sym, ◌∙◌, ap}
 use mathlib.Core.Bool.{not}
+use borrow.Author.Tests.{eqb-true, eqb-false}
+use Rattle.rules.proofs.Test.{clash}
+use Rattle.rows.specs.declared.kinds.Kind.TheVariants.{Branch}
+use Rattle.rows.proofs.Numbers.{eq-false}
 use Rattle.placing.proofs.Branches.{other-not-bad, named-not-bad, not-well-bad}
 use Rattle.placing.proofs.badly_placed.Goals as goal
+use Rattle.placing.proofs.badly_placed.Goals.{then-eq, else-eq}
 
-pub returns-then-kind-ne-BRANCH : goal.returns-then-kind-ne-BRANCH
-returns-then-kind-ne-BRANCH c =
-    other-not-bad _ _ _ c.kind.ensures (c.requires.formed.0.2.details c.args.row.0 c.requires.row_bound) c.if-kind-ne-BRANCH.true
+pub returns-then-name_word-eq0 : goal.returns-then-name_word-eq0
+returns-then-name_word-eq0 c = elim c.if-eq.branch [
+  | then-eq w ↦ ap not c.well_placed.ensures ∙ not-well-bad _ _ _ w.name_word.ensures (eqb-true _ 0 (sym w.value-is ∙ c.if-name_word-eq0.true))
+  | else-eq w ↦ let e = w.value-is in let t = c.if-name_word-eq0.true in absurd (clash (cc))
+]
 
-pub returns-then-name-ne0 : goal.returns-then-name-ne0
-returns-then-name-ne0 c = named-not-bad _ _ _ c.name-name.ensures c.if-name-ne0.true
-
-pub well_placed-requires : goal.well_placed-requires
-well_placed-requires c = record {
-  formed = c.requires.formed;
-  row_bound = (c.requires.row_bound, sym c.kind.ensures ∙ c.if-kind-ne-BRANCH.false, sym c.name-name.ensures ∙ c.if-name-ne0.false);
-  reach = c.requires.reach;
-}
-
-pub returns : goal.returns
-returns c = ap not c.well_placed.ensures ∙ not-well-bad _ _ _ c.name-name.ensures c.if-name-ne0.false
+pub returns-else-name_word-eq0 : goal.returns-else-name_word-eq0
+returns-else-name_word-eq0 c = c.if-name_word-eq0.false ∙ elim c.if-eq.branch [
+  | then-eq w ↦ named-not-bad _ _ _ w.name_word.ensures (eqb-false _ 0 (sym w.value-is ∙ c.if-name_word-eq0.false))
+  | else-eq w ↦ other-not-bad _ _ (c.requires.formed.0.2.details c.args.row.0 c.requires.row_bound) (eq-false _ Branch c.kind_at.ensures w.if-eq.ensures)
+]

@@ -3,35 +3,28 @@
 use mathlib.Core.Path.{sym, ◌∙◌}
 use native.Mathlib.Omega.{arith}
 use Rattle.bodyfile.proofs.Header.{start-passes, within}
-use Rattle.report.proofs.Files.{text-bad, text-counts, text-part, text-whole}
+use Rattle.report.proofs.Files.{text-bad, text-refusal, text-part, text-whole}
 use Rattle.report.proofs.report.Goals as goal
 
-pub returns-then-bad_start : goal.returns-then-bad_start
-returns-then-bad_start c =
-    let t = c.refused_text.ensures in record { text = t.text ∙ text-bad _ _ (sym c.bad_start.ensures ∙ c.if-bad_start.true); counts = t.counts }
+pub returns-then-bad_start-clause-text : goal.returns-then-bad_start-clause-text
+returns-then-bad_start-clause-text c = c.refused_text.ensures.text ∙ text-bad _ _ (sym c.if-bad_start.ensures)
 
-pub count_refusal-refusal-requires : goal.count_refusal-refusal-requires
-count_refusal-refusal-requires c = (start-passes _ _ (sym c.bad_start.ensures ∙ c.if-bad_start.false)).0
+pub count_refusal-requires : goal.count_refusal-requires
+count_refusal-requires c = (start-passes _ _ (sym c.if-bad_start.ensures)).0
 
-pub returns-then-refusal-ne0 : goal.returns-then-refusal-ne0
-returns-then-refusal-ne0 c =
-    let t = c.refused_text-then-refusal-ne0.ensures in
-    let s = sym c.bad_start.ensures ∙ c.if-bad_start.false in record { text = t.text ∙ text-counts _ _ s _ c.count_refusal-refusal.ensures c.if-refusal-ne0.true; counts = t.counts }
+pub returns-in-Some-clause-text : goal.returns-in-Some-clause-text
+returns-in-Some-clause-text c =
+    let t = text-refusal _ _ (sym c.if-bad_start.ensures) _ c.in-Some.ensures in cc
 
-pub returns-then-file-length : goal.returns-then-file-length
-returns-then-file-length c =
-    let t = c.refused_text-then-file-length.ensures in
-    let s = sym c.bad_start.ensures ∙ c.if-bad_start.false in
-    let z = sym c.if-refusal-ne0.false ∙ c.count_refusal-refusal.ensures in record { text = t.text ∙ text-part _ _ s z c.if-file-length.true; counts = t.counts }
+pub returns-then-file-length-clause-text : goal.returns-then-file-length-clause-text
+returns-then-file-length-clause-text c =
+    c.refused_text-then-file-length.ensures.text ∙ text-part _ _ (sym c.if-bad_start.ensures) c.in_default.ensures (λ e. omega arith)
 
-pub file_text-requires : goal.file_text-requires
-file_text-requires c =
-    let s = sym c.bad_start.ensures ∙ c.if-bad_start.false in
-    let z = sym c.if-refusal-ne0.false ∙ c.count_refusal-refusal.ensures in
-    (within _ (sym z), (c.if-file-length.false ∙ (start-passes _ _ s).1, omega arith))
+pub file_text-requires-clause-counts : goal.file_text-requires-clause-counts
+file_text-requires-clause-counts c = within _ (sym c.in_default.ensures)
 
-pub returns : goal.returns
-returns c =
-    let t = c.file_text.ensures in
-    let s = sym c.bad_start.ensures ∙ c.if-bad_start.false in
-    let z = sym c.if-refusal-ne0.false ∙ c.count_refusal-refusal.ensures in record { text = t.text ∙ text-whole _ _ s z c.if-file-length.false; counts = t.counts }
+pub file_text-requires-clause-said : goal.file_text-requires-clause-said
+file_text-requires-clause-said c = c.if-file-length.false ∙ (start-passes _ _ (sym c.if-bad_start.ensures)).1
+
+pub returns-clause-text : goal.returns-clause-text
+returns-clause-text c = c.file_text.ensures.text ∙ text-whole _ _ (sym c.if-bad_start.ensures) c.in_default.ensures c.if-file-length.false

@@ -3,38 +3,40 @@
 use mathlib.Core.Path.{◌≡◌, sym, ◌∙◌, ap}
 use mathlib.Core.Bool.{Bool}
 use mathlib.Core.List.{List}
-use mathlib.Core.Option.{some}
+use mathlib.Core.Option.{none, some}
 use Prim.Native.Nat.{ℕ}
-use Rattle.rules.specs.Refusals.{refusal, WellFormed}
-use Rattle.rules.specs.Calls.{refused, answered, verdict_call}
-use Rattle.rules.proofs.Facts as facts
+use Rattle.std.proofs.Common.{Result, Err}
+use Rattle.std.proofs.lemmas.Result.{err_from_is_err_and}
+use Rattle.rules.specs.Refusals.{refusal}
+use Rattle.rules.specs.Calls.{answered, verdict_call}
 use Rattle.rules.proofs.Terminating.{verdict-is}
-use Rattle.body.specs.Given as body
-use Rattle.returns.specs.Search.{is_terminating_body}
+use Rattle.refusals.specs.declared.Refusal.{Refusal}
+use Rattle.refusals.specs.Returned.{returned, given}
 use Rattle.breaks.proofs.Ranges.{label-of-first}
+use Rattle.body.proofs.Facts.{facts_of}
+use Rattle.returns.specs.Search.{is_terminating_body}
 use Rattle.returns.proofs.verdict_of.Goals as goal
 
 module _ (w p b : List ℕ) where
-  refusing : (x : ℕ × ℕ) → refusal w p b ≡ some x → refused x.0 x.1 ≡ verdict_call w p b
+  refusing : {x : Result Bool Refusal} (r : Refusal) → x ≡ Err r → some (returned r) ≡ refusal w p b → given x ≡ verdict_call w p b
   unfolding verdict_call
-  refusing x e = rw (e, verdict_call)
+  refusing r q e = rw (q, ← e, verdict_call)
 
-  answering : WellFormed w p b → {t u : Bool} → t ≡ is_terminating_body w p b 0 → t ≡ u → answered u ≡ verdict_call w p b
+  answering : none ≡ refusal w p b → {t : Bool} → t ≡ is_terminating_body w p b 0 → answered t ≡ verdict_call w p b
   unfolding verdict_call is_terminating_body
-  answering e f g = rw (e, verdict_call) (ap answered (sym g ∙ f ∙ sym (verdict-is w p b)))
+  answering e f = rw (← e, verdict_call) (ap answered (f ∙ sym (verdict-is w p b)))
+
+pub returns-in_err-body : goal.returns-in_err-body
+returns-in_err-body c =
+    let p = err_from_is_err_and c.from_residual.result c.from_residual.ensures.1 in
+    refusing _ _ _ _ (rw p.2 at p.1) c.in_err-body.ensures.answer
 
 pub is_terminating-requires : goal.is_terminating-requires
 is_terminating-requires c =
-    let f = facts.body _ _ _ (sym c.refusal_of.ensures ∙ ap body.given c.in-WellFormed.is) in
-    (f, f.some_rows, rw f.root_class, sym (label-of-first _))
+    let f = facts_of c.in_ok-body.body in
+    (f.some_rows, rw f.root_class, sym (label-of-first _))
 
-pub returns-in-Refused : goal.returns-in-Refused
-returns-in-Refused c = refusing _ _ _ _ (sym c.refusal_of.ensures ∙ ap body.given c.in-Refused.is)
-
-pub returns-then-is_terminating : goal.returns-then-is_terminating
-returns-then-is_terminating c =
-    answering _ _ _ (sym c.refusal_of.ensures ∙ ap body.given c.in-WellFormed.is) c.is_terminating.ensures c.if-is_terminating.true
-
-pub returns-else-is_terminating : goal.returns-else-is_terminating
-returns-else-is_terminating c =
-    answering _ _ _ (sym c.refusal_of.ensures ∙ ap body.given c.in-WellFormed.is) c.is_terminating.ensures c.if-is_terminating.false
+pub returns : goal.returns
+returns c =
+    let (rows, pairs, bytes) = c.in_ok-body.ensures.lent in
+    answering _ _ _ c.in_ok-body.ensures.answer (rw (rows, pairs, bytes) at c.is_terminating.ensures)

@@ -1,6 +1,6 @@
 -- Each way out of the code is one rule of rules' Details for a number that the pairs have; past the last pair no name is allowed.
 -- Assumes nothing.
-use mathlib.Core.Path.{◌≡◌, sym, ◌∙◌}
+use mathlib.Core.Path.{◌≡◌, refl, sym, ◌∙◌}
 use mathlib.Core.Bool.{true, not, ◌&&◌}
 use Prim.Native.Nat.{ℕ, ◌≤◌}
 use native.Mathlib.Omega.{arith}
@@ -10,6 +10,7 @@ use Rattle.rules.specs.Class.{class_of}
 use Rattle.rules.specs.Refusals.{name_allowed}
 use Rattle.rules.proofs.Test.{case-of}
 use Rattle.rules.proofs.Details.{past_pairs, labeled-name, goto-name, branch-name, other_name}
+use Rattle.rows.proofs.Numbers.{is-kind, not-kind}
 use Rattle.row_checks.proofs.name_allowed.Goals as goal
 
 -- a rule for the numbers that the pairs have, of any number
@@ -24,15 +25,16 @@ module _ (k d p n : ℕ) where
   has-none f = case-of (leb n p) (λ t. sym (f (leb-true n p t)))
       (λ t. ne_eqb n 0 (λ e. omega (arith, leb-false n p t)) ∙ sym (past_pairs (class_of k d) p n (leb-false n p t)))
 
-pub returns-then-kind-eq-LABELED : goal.returns-then-kind-eq-LABELED
-returns-then-kind-eq-LABELED c = c.is_name.ensures ∙ must-have _ _ _ _ (λ h. labeled-name _ _ _ _ c.requires h c.if-kind-eq-LABELED.true)
+pub returns-in-Labeled : goal.returns-in-Labeled
+returns-in-Labeled c = c.is_name.ensures ∙ must-have _ _ _ _ (λ h. labeled-name _ _ _ _ c.requires h (is-kind refl c.in-Labeled.is))
 
 pub returns-then-detail-eq-GOTO : goal.returns-then-detail-eq-GOTO
 returns-then-detail-eq-GOTO c =
-    c.is_name-then-detail-eq-GOTO.ensures ∙ must-have _ _ _ _ (λ h. goto-name _ _ _ _ c.requires h c.if-kind-eq-BRANCH.true c.if-detail-eq-GOTO.true)
+    c.is_name-then-detail-eq-GOTO.ensures ∙ must-have _ _ _ _ (λ h. goto-name _ _ _ _ c.requires h (is-kind refl c.in-Branch.is) c.if-detail-eq-GOTO.true)
 
-pub returns-then-kind-eq-BRANCH : goal.returns-then-kind-eq-BRANCH
-returns-then-kind-eq-BRANCH c = may-have _ _ _ _ (λ h. branch-name _ _ _ _ c.requires h c.if-kind-eq-BRANCH.true c.if-detail-eq-GOTO.false)
+pub returns-else-detail-eq-GOTO : goal.returns-else-detail-eq-GOTO
+returns-else-detail-eq-GOTO c = may-have _ _ _ _ (λ h. branch-name _ _ _ _ c.requires h (is-kind refl c.in-Branch.is) c.if-detail-eq-GOTO.false)
 
-pub returns : goal.returns
-returns c = has-none _ _ _ _ (λ h. other_name _ _ _ _ c.requires h c.if-kind-eq-LABELED.false c.if-kind-eq-BRANCH.false)
+pub returns-in_default : goal.returns-in_default
+returns-in_default c =
+    has-none _ _ _ _ (λ h. other_name _ _ _ _ c.requires h (not-kind refl c.in_default.not-Labeled) (not-kind refl c.in_default.not-Branch))

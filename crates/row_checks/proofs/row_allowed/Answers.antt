@@ -35,19 +35,19 @@ module _ (w p : List ℕ) (r k d : ℕ) (ek : k ≡ kind w r) (ed : d ≡ detail
 
 pub returns-then-not-detail_allowed : goal.returns-then-not-detail_allowed
 returns-then-not-detail_allowed c p many =
-    bad-detail _ p _ _ _ c.kind-kind.ensures c.detail-detail.ensures
-    (sym c.detail_allowed.ensures ∙ c.if-not-detail_allowed.true)
+    bad-detail _ p _ _ _ c.kind.ensures c.detail-detail.ensures (sym c.detail_allowed.ensures ∙ c.if-not-detail_allowed.true)
 
 pub returns-then-position-eq0 : goal.returns-then-position-eq0
 returns-then-position-eq0 c p many =
-    bad-position _ p _ _ _ c.kind-kind.ensures c.detail-detail.ensures (sym c.detail_allowed.ensures ∙ c.if-not-detail_allowed.false) _ c.position.ensures
+    bad-position _ p _ _ _ c.kind.ensures c.detail-detail.ensures (sym c.detail_allowed.ensures ∙ c.if-not-detail_allowed.false) _ c.position.ensures
     c.if-position-eq0.true
 
 pub name_allowed-requires : goal.name_allowed-requires
-name_allowed-requires c = sym c.detail_allowed.ensures ∙ c.if-not-detail_allowed.false
+name_allowed-requires c = rw (c.kind_at.ensures, ← c.kind.ensures) (sym c.detail_allowed.ensures ∙ c.if-not-detail_allowed.false)
 
 pub returns : goal.returns
 returns c p many =
+    let a = sym c.detail_allowed.ensures ∙ c.if-not-detail_allowed.false in
     c.name_allowed.ensures
-    ∙ by_name _ p _ _ _ c.kind-kind.ensures c.detail-detail.ensures (sym c.detail_allowed.ensures ∙ c.if-not-detail_allowed.false) _ c.position.ensures
+    ∙ by_name _ p _ _ _ c.kind_at.ensures c.detail-detail.ensures (rw (c.kind_at.ensures, ← c.kind.ensures) a) _ c.position.ensures
     c.if-position-eq0.false _ c.name-name.ensures _ many

@@ -18,7 +18,7 @@ decreases-statement_fits l = 2 * size l.rows.now l.row.0 + 1
 
 abbrev pub invariant-list_fits-loop-c : goal.invariant-list_fits-loop-c
 invariant-list_fits-loop-c l =
-    ListedFrom l.rows (some_pairs l.pair_count) l.initial.c l.end l.c × CountedFrom l.rows l.items l.initial.c l.c l.defaults
+    ListedFrom l.rows (some_pairs l.pair_count) l.initial.c l.end l.c × CountedFrom l.rows l.initial.c l.c l.defaults
 
 abbrev pub decreases-list_fits-loop-c : goal.decreases-list_fits-loop-c
 decreases-list_fits-loop-c l = l.end - l.c

@@ -34,7 +34,7 @@ module _ (w p : List ℕ) (some : 0 < row_count w) (g : bad_row w p 0 ≡ false)
   root_size : size w 0 ≡ row_count w
   root_size = eqb-true (size w 0) (row_count w) body-parts.1
 
-  root-list : row_count w ≤ 2000 → Met w 0 1 × DetailedTo w 0 × (is_list (holding (class w 0)) ≡ true) × (0 ≡ item_kind (holding (class w 0)))
+  root-list : row_count w ≤ 2000 → Met w 0 1 × DetailedTo w 0 × (is_list (holding (class w 0)) ≡ true) × (item_kind (holding (class w 0)) ≡ 0)
   root-list most =
       let s = root_size in
       let m : Met w 0 1 = record {
@@ -47,7 +47,7 @@ module _ (w p : List ℕ) (some : 0 < row_count w) (g : bad_row w p 0 ≡ false)
         deepest = omega arith;
       } in
       let h = root-block w 0 (is_one (base w 0) block body-parts.0) refl in
-      (m, root-details w p g, ap is_list h, ap item_kind (sym h))
+      (m, root-details w p g, ap is_list h, ap item_kind h)
 
   all_right : RightBelow w p 0 → (k : ℕ) → k < row_count w → Right w p k
   all_right o k l =

@@ -6,13 +6,15 @@ use native.Mathlib.Omega.{arith}
 use lib.Dec.{eqb}
 use Rattle.rules.specs.Rows.{row_count}
 use Rattle.rules.proofs.Children.{other-root, block-root}
+use Rattle.rows.specs.declared.kinds.Kind.TheVariants.{Block}
+use Rattle.rows.proofs.Numbers.{ne-true, ne-false}
 use Rattle.shape.proofs.is_body.Goals as goal
 
-pub returns-then-kind-ne-BLOCK : goal.returns-then-kind-ne-BLOCK
-returns-then-kind-ne-BLOCK c =
-    sym (other-root c.args.rows.now (c.requires.1 0 (omega arith)) (λ k. c.if-kind-ne-BLOCK.true (c.kind.ensures ∙ k)))
+pub returns-then-ne : goal.returns-then-ne
+returns-then-ne c =
+    sym (other-root c.args.rows.now (c.requires.1 0 (omega arith)) (ne-true _ Block c.kind_at.ensures c.if-ne.ensures))
 
 pub returns : goal.returns
 returns c =
     ap (λ (n : ℕ). eqb n (row_count c.args.rows.now)) c.size.ensures
-    ∙ sym (block-root c.args.rows.now (c.requires.1 0 (omega arith)) (sym c.kind.ensures ∙ c.if-kind-ne-BLOCK.false))
+    ∙ sym (block-root c.args.rows.now (c.requires.1 0 (omega arith)) (ne-false _ Block c.kind_at.ensures c.if-ne.ensures))

@@ -12,7 +12,7 @@ use Rattle.rules.specs.Body.{Detailed}
 use Rattle.rules.proofs.Children.{shape-fits, shape-no-body}
 use Rattle.shape.specs.DetailedTo.{DetailedTo}
 use Rattle.shape.proofs.shape_holds.Goals as goal
-use Rattle.shape.proofs.shape_holds.Goals.{then-row-eq0+else-not-is_body, else-row-eq0}
+use Rattle.shape.proofs.shape_holds.Goals.{else-row-eq0-via-then-row-eq0+else-not-is_body, else-row-eq0-via-else-row-eq0}
 
 -- t is what `children_fit` says with h, what the row holds
 fitted : (w : List ℕ) (r : ℕ) (t : Bool) (h : Holds)
@@ -41,5 +41,8 @@ holding_at-requires c = (c.requires.0, detailed-to c.args.rows.now c.args.row.0 
 pub returns : goal.returns
 returns c =
     let root : c.args.row.0 ≡ 0 → is_body c.args.rows.now ≡ true =
-    elim c.if-row-eq0.branch [ then-row-eq0+else-not-is_body w ↦ λ z. sym w.is_body.ensures ∙ w.if-not-is_body.false | else-row-eq0 w ↦ λ z. absurd (w.if-row-eq0.false z) ] in
+    elim c.else-row-eq0.branch [
+      | else-row-eq0-via-then-row-eq0+else-not-is_body w ↦ λ z. sym w.is_body.ensures ∙ w.if-not-is_body.false
+      | else-row-eq0-via-else-row-eq0 w ↦ λ z. absurd (w.if-row-eq0.false z)
+    ] in
     fitted c.args.rows.now c.args.row.0 _ _ root c.holding_at.ensures c.children_fit.ensures

@@ -5,4 +5,4 @@ use Rattle.tables.proofs.is_blank.Goals as goal
 
 pub returns : goal.returns
 unfolding is_blank
-returns c = cc (c.same_bytes.ensures, c.name_part.ensures)
+returns c = cc (c.same_bytes.ensures, c.bytes_of.ensures)

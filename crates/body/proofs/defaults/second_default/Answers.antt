@@ -26,26 +26,8 @@ first_of {r} a = rw (← add-one r) a
 is_row : {w : List ℕ} {e b f : ℕ} → NextDefault w e b f → e ≤ row_count w → (f ≡ e → ⊥) → f < row_count w
 is_row a l o = omega (arith, a.high)
 
-pub overflow_add-end : goal.overflow_add-end
-overflow_add-end c = omega (arith, within _ _ _ c.requires.2 c.requires.0 c.size.ensures)
-
-pub next_default-first-requires : goal.next_default-first-requires
-next_default-first-requires c = (within _ _ _ c.requires.2 c.requires.0 c.size.ensures, c.requires.1, c.requires.2, c.requires.3)
-
 pub returns-then-first-end : goal.returns-then-first-end
 returns-then-first-end c = no_default (ends _ _ _ c.size.ensures) (first_of c.next_default-first.ensures) c.if-first-end.true
-
-pub size-requires-2 : goal.size-requires-2
-size-requires-2 c =
-    is_row c.next_default-first.ensures (within _ _ _ c.requires.2 c.requires.0 c.size.ensures) c.if-first-end.false
-
-pub overflow_add-first : goal.overflow_add-first
-overflow_add-first c =
-    let l = is_row c.next_default-first.ensures (within _ _ _ c.requires.2 c.requires.0 c.size.ensures) c.if-first-end.false in
-    omega (arith, c.requires.1, within _ _ _ c.requires.2 l c.size-2.ensures)
-
-pub next_default-second-requires : goal.next_default-second-requires
-next_default-second-requires c = (within _ _ _ c.requires.2 c.requires.0 c.size.ensures, c.requires.1, c.requires.2, c.requires.3)
 
 pub returns-then-second-end : goal.returns-then-second-end
 returns-then-second-end c =

@@ -38,51 +38,35 @@ module _ (w : List ℕ) (r n : ℕ) (s : Sized w) (l : r < row_count w) (z : n �
   within = omega (arith, s.within r l)
 
 pub loop-r-init : goal.loop-r-init
-loop-r-init c = (omega arith, refl, counted_none _ 2001, below_none _)
+loop-r-init c = (refl, counted_none _ 2001, below_none _)
 
 pub overflow_add-ended : goal.overflow_add-ended
-overflow_add-ended c = omega (arith, no_more _ _ _ _ _ c.loop-r.invariant.2 (omega arith) c.wide-ended.ensures)
+overflow_add-ended c = omega (arith, no_more _ _ _ _ _ c.loop-r.invariant.1 (omega arith) c.from-ended.ensures)
 
 pub overflow_sub-r : goal.overflow_sub-r
-overflow_sub-r c = no_more _ _ _ _ _ c.loop-r.invariant.2 (omega arith) c.wide-ended.ensures
+overflow_sub-r c = no_more _ _ _ _ _ c.loop-r.invariant.1 (omega arith) c.from-ended.ensures
 
 pub returns-then-r-ended-gt100 : goal.returns-then-r-ended-gt100
 unfolding cause6
 returns-then-r-ended-gt100 c =
     sym (found-lowest _ _ _ c.loop-r-test.true
-    (too-deep _ _ _ _ _ c.loop-r.invariant.2 (omega arith) c.wide-ended.ensures c.if-r-ended-gt100.true) c.loop-r.invariant.3)
-
-pub overflow_add-end : goal.overflow_add-end
-overflow_add-end c = omega (arith, within _ _ _ c.requires.0 c.loop-r-test.true c.size.ensures)
-
-pub offset_bounds-ends-end : goal.offset_bounds-ends-end
-offset_bounds-ends-end c = omega (arith, within _ _ _ c.requires.0 c.loop-r-test.true c.size.ensures)
-
-pub bounds-ends-end : goal.bounds-ends-end
-bounds-ends-end c = omega (arith, within _ _ _ c.requires.0 c.loop-r-test.true c.size.ensures)
+    (too-deep _ _ _ _ _ c.loop-r.invariant.1 (omega arith) c.from-ended.ensures c.if-r-ended-gt100.true) c.loop-r.invariant.2)
 
 pub overflow_add-ends : goal.overflow_add-ends
 overflow_add-ends c =
     let i : c.loop-r.r + c.size.result < length c.loop-r.ends = omega (arith, within _ _ _ c.requires.0 c.loop-r-test.true c.size.ensures) in
-    omega (arith, counts-most _ c.loop-r.ends c.loop-r.ended c.loop-r.r c.loop-r.invariant.2 (c.loop-r.r + c.size.result) i)
-
-pub offset_bounds-ends-end-in-loop-r : goal.offset_bounds-ends-end-in-loop-r
-offset_bounds-ends-end-in-loop-r c = omega (arith, within _ _ _ c.requires.0 c.loop-r-test.true c.size.ensures)
-
-pub bounds-ends-end-in-loop-r : goal.bounds-ends-end-in-loop-r
-bounds-ends-end-in-loop-r c = omega (arith, within _ _ _ c.requires.0 c.loop-r-test.true c.size.ensures)
+    omega (arith, counts-most _ c.loop-r.ends c.loop-r.ended c.loop-r.r c.loop-r.invariant.1 (c.loop-r.r + c.size.result) i)
 
 pub loop-r-preserved : goal.loop-r-preserved
 loop-r-preserved c =
     let h : c.loop-r.r < length c.loop-r.ends = omega arith in (
-      omega arith,
-      simp length-set c.loop-r.invariant.1,
-      counted-more _ _ _ _ c.loop-r.invariant.2 h _ c.wide-ended.ensures _ (ap (λ n. c.loop-r.r + n) c.size.ensures)
+      simp length-set c.loop-r.invariant.0,
+      counted-more _ _ _ _ c.loop-r.invariant.1 h _ c.from-ended.ensures _ (ap (λ n. c.loop-r.r + n) c.size.ensures)
           (some_rows _ _ _ c.requires.0 c.loop-r-test.true c.size.ensures)
           (omega (arith, within _ _ _ c.requires.0 c.loop-r-test.true c.size.ensures)),
-      below_more _ _ c.loop-r.invariant.3 (not-deep _ _ _ _ _ c.loop-r.invariant.2 h c.wide-ended.ensures c.if-r-ended-gt100.false),
+      below_more _ _ c.loop-r.invariant.2 (not-deep _ _ _ _ _ c.loop-r.invariant.1 h c.from-ended.ensures c.if-r-ended-gt100.false),
     )
 
 pub returns : goal.returns
 unfolding cause6
-returns c = sym (none-lowest _ _ (λ k l. c.loop-r.invariant.3 k (omega arith)))
+returns c = sym (none-lowest _ _ (λ k l. c.loop-r.invariant.2 k (omega arith)))

@@ -6,31 +6,13 @@ use Rattle.placing.specs.Counted.{counted}
 use Rattle.placing.proofs.Counting.{own-counted}
 use Rattle.placing.proofs.counts.next_that_counts.Goals as goal
 
-pub loop-r-init : goal.loop-r-init
-loop-r-init c = record { low = omega arith; high = omega arith; none = λ k l m. absurd (omega arith) }
-
-pub kind-requires : goal.kind-requires
-kind-requires c = omega arith
-
-pub returns-then-counts : goal.returns-then-counts
-returns-then-counts c = c.loop-r.invariant
-
-pub overflow_add-r : goal.overflow_add-r
-overflow_add-r c = omega arith
-
-pub loop-r-smaller : goal.loop-r-smaller
-loop-r-smaller c = omega arith
-
 pub loop-r-preserved : goal.loop-r-preserved
 loop-r-preserved c =
     let w = c.args.rows.now in
     let a = c.requires.0 c.loop-r.r (omega arith) in
-    let n = sym (by-words counted w c.loop-r.r _ _ (own-counted w c.loop-r.r) c.kind.ensures a c.counts.ensures) ∙ c.if-counts.false in
+    let n = sym (by-words counted w c.loop-r.r _ _ (own-counted w c.loop-r.r) c.kind_at.ensures a c.counts.ensures) ∙ c.if-counts.false in
     record {
       low = omega (arith, c.loop-r.invariant.low);
       high = omega arith;
       none = λ k h m. elim (ℕ_discrete k c.loop-r.r) [ yes e ↦ rw e n | no o ↦ c.loop-r.invariant.none k h (omega arith) ];
     }
-
-pub returns : goal.returns
-returns c = c.loop-r.invariant

@@ -43,4 +43,4 @@ returns-then-detail-ge8 c = sym (past-bits _ _ c.if-detail-ge8.true)
 
 pub returns : goal.returns
 unfolding every lowest detail_allowed
-returns c = by_bits entries _ _ refl c.if-kind-ge21.false c.if-detail-ge8.false c.wide-byte.ensures
+returns c = by_bits entries _ _ refl c.if-kind-ge21.false c.if-detail-ge8.false c.from-byte.ensures
