@@ -43,7 +43,8 @@ pub fn bad_start(file: &[u8], total: u64) -> bool
     file.len() < 12 || said_length(file) != total
 }
 
-// The refusal that the counts decide: of the rows, or of the names and their bytes.
+// The refusal that the counts decide, of the rows or of the names and their bytes; none where they are
+// within their limits.
 #[tactic(auto, using(std::proofs::lemmas::Bool::Decides::nat_tests), unfolding(crate::specs::Limits::count_refusal))]
 pub fn count_refusal(file: &[u8]) -> Option<Refusal>
     requires { 12 ≤ length file.now }

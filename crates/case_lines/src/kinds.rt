@@ -1,4 +1,5 @@
 // What a line of the list is.
+
 // What an answer line asks for.
 #[derive(Clone, Copy, Debug, PartialEq, Eq)]
 pub enum Question {

@@ -21,7 +21,8 @@ fn judged(body: Body<'_>, sheet: &mut [u32], bindings: &mut [u32]) -> bool
     }
 }
 
-// With a sheet of so many words: no body needs a larger one, and a large buffer costs time to make.
+// With a sheet of so many words, which has to hold the body's. No body needs more than 16,000, and a
+// large buffer costs time to make.
 fn judged_with<const WORDS: usize>(body: Body<'_>, bindings: &mut [u32]) -> bool
     requires rows_in_bounds { (row_count body.rows.now * 8 ≤ WORDS)
         × (row_count body.rows.now ≤ length bindings.old) }

@@ -47,7 +47,8 @@ fn walk_body(
 }
 
 // The walk over tables for fewer than NAMES names and up to ROWS rows, once the bindings are 0. No
-// body needs larger ones, and tables cost time to make, so a caller takes small ones where they do.
+// body needs more than 501 and 2,000, and tables cost time to make, so a caller takes smaller ones
+// where they do.
 pub fn walk<const NAMES: usize, const ROWS: usize>(
     body: Body<'_>,
     sheet: &mut [u32],

@@ -70,8 +70,8 @@ fn labelled(rt: &impl Print, words: &mut [u32], last: u32) -> io::Result<()> {
     block(rt, words, last.wrapping_add(1))
 }
 
-// So many Ifs with a Block each, and each but the last with the next for its else, which go up to
-// row `rest`.
+// So many Ifs, which end with row `rest`: each has a Block, and each but the last the next If for its
+// else.
 fn else_chain(rt: &impl Print, words: &mut [u32], ifs: usize, rest: u32) -> io::Result<()> {
     let first = Row::new(Kind::If, 1, 0, rest);
     fill::rows(words, Run::new(1, 2, ifs), first, 0, 2);

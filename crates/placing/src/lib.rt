@@ -202,7 +202,7 @@ pub fn placed(rows: &[u32]) -> Option<RowNumber>
     }
 }
 
-// The first row badly placed of a well-formed body, if there is one; else the refusal.
+// The first row badly placed of a well-formed body, or none; of another body the refusal.
 pub fn placing_of(rows: &[u32], pairs: &[u32], bytes: &[u8]) -> Result<Option<RowNumber>, Refusal>
     ensures { given result ≡ placing_call rows.now pairs.now bytes.now }
 {

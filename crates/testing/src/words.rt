@@ -12,8 +12,8 @@ fn number(digits: &[u8]) -> Option<u32> {
 }
 
 // Puts the numbers of a line after the first `count` words, and answers how many words there are
-// then; none where there is no room for a number, or where something else than numbers with blanks
-// between them stands there.
+// then. It answers none if there is no room for a number, or if the line has something other than
+// numbers and blanks.
 pub fn append(words: &mut [u32], count: usize, line: &[u8]) -> Option<usize> {
     let mut n = count;
     for digits in line.split(|byte| *byte == b' ') {
