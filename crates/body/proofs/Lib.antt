@@ -1,3 +1,4 @@
 pub mod Facts
 pub mod Seconds
 pub mod Whole
+pub mod Taken

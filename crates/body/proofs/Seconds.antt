@@ -5,14 +5,15 @@
 use mathlib.Core.Path.{◌≡◌, sym, ◌∙◌}
 use mathlib.Core.Bool.{Bool, true, false}
 use mathlib.Core.List.{List}
-use mathlib.Core.Option.{none, some}
-use Prim.Native.Nat.{ℕ, suc, ◌+◌, ◌≤◌, ◌<◌}
+use mathlib.Core.Option.{Option, none, some}
+use Prim.Native.Nat.{ℕ, ◌+◌, ◌≤◌, ◌<◌}
 use native.Mathlib.Omega.{arith}
+use native.Mathlib.Numerals.{add-one}
 use native.Mathlib.Decide.{dec_lt, ℕ_discrete}
 use Rattle.rules.specs.Rows.{row_count, size, end, Item, here, Child}
 use Rattle.rules.specs.Class.{is_default, base}
 use Rattle.rules.specs.Refusals.{second_default, cause10}
-use Rattle.rules.specs.Body.{Sized, SecondChild, OneDefault}
+use Rattle.rules.specs.Body.{Sized, SecondChild}
 use Rattle.rules.proofs.Test.{case-of, clash}
 use Rattle.rules.proofs.Scan.{found-lowest, none-lowest}
 use Rattle.rules.proofs.Causes.{is-10}
@@ -33,6 +34,9 @@ pub looks : (w : List ℕ) (e b : ℕ) → Looking w e b b
 looks w e b = record { at = here; before = λ s i l. absurd (omega (arith, item_from i)) }
 
 module _ {w : List ℕ} {e b c : ℕ} (a : Looking w e b c) where
+  pub looked : e ≤ c → NextDefault w e b none
+  looked l s i = a.before s i (omega (arith, item-before i))
+
   pub looks_on : c < e → is_default (base w c) ≡ false → {n : ℕ} → n ≡ size w c → Looking w e b (c + n)
   looks_on l f z = rw z record { at = item-next (a.at l); before = before }
     where
@@ -46,53 +50,44 @@ module _ {w : List ℕ} {e b c : ℕ} (a : Looking w e b c) where
             ]
       ]
 
--- ---- the second default among the children of p
-module _ {w : List ℕ} {p e : ℕ} (z : e ≡ end w p) where
-  module _ {f : ℕ} (a : NextDefault w e (suc p) f) where
-    first-child : f < e → Child w p f
-    first-child l = rw (← z) (a.item l)
+-- ---- the second default among the children of p; n is its size as the code read it
+module _ (w : List ℕ) (p : ℕ) {n : ℕ} (z : n ≡ size w p) where
+  child : {s : ℕ} → Item w (p + n) (p + 1) s → Child w p s
+  child i = rw (← z, ← add-one p) i
 
-    -- no default comes before the first
-    not-before : (k : ℕ) → Child w p k → is_default (base w k) ≡ true → k < f → ⊥
-    not-before k i t l = both t (a.before k (rw z i) l)
+  item-child : {s : ℕ} → Child w p s → Item w (p + n) (p + 1) s
+  item-child i = rw (z, add-one p) i
 
-    pub no_default : f ≡ e → OneDefault w p
-    no_default y r s = not-before r s.child s.default (omega (arith, item-before s.child))
+  module _ {f : ℕ} (a : NextDefault w (p + n) (p + 1) (some f)) where
+    -- a second default is a default after the first
+    after_first : (r : ℕ) → SecondChild w p r → Item w (end w p) (end w f) r
+    after_first r s =
+        item-after (child a.0) s.child
+        (elim (dec_lt s.earlier f) [
+          | yes l ↦ both s.earlier_default (a.2 s.earlier (item-child s.earlier_child) l)
+          | no l ↦ omega (arith, s.before)
+        ])
 
-    module _ (o : f ≡ e → ⊥) {n : ℕ} (y : n ≡ size w f) (g : 0 < n) {k : ℕ} (b : NextDefault w e (f + n) k) where
-      is_row : f < e
-      is_row = omega (arith, a.high)
+    pub first_row : Sized w → p < row_count w → f < row_count w
+    first_row sized h = omega (arith, item-before a.0, sized.within p h)
 
-      -- a second default is a default after the first
-      after_first : (r : ℕ) → SecondChild w p r → Item w (end w p) (end w f) r
-      after_first r s =
-          item-after (first-child is_row) s.child
-          (elim (dec_lt s.earlier f) [
-            | yes l ↦ absurd (not-before s.earlier s.earlier_child s.earlier_default l)
-            | no l ↦ omega (arith, s.before)
-          ])
-
-      lower : (r : ℕ) → r < k → SecondChild w p r → ⊥
-      lower r l s = both s.default (b.before r (rw (y, z) (after_first r s)) l)
-
-      pub only_one : k ≡ e → OneDefault w p
-      only_one q r s = lower r (omega (arith, item-before s.child)) s
-
-      pub second_is : (k ≡ e → ⊥) → SecondOf w p (some k)
-      second_is q =
-          let l : k < e = omega (arith, b.high) in
-          let i : Item w (end w p) (end w f) k = rw (← y, ← z) (b.item l) in
-          let m = item_from i in (
-            record {
-              child = item-later (first-child is_row) i;
-              default = b.default l;
-              earlier = f;
-              before = omega arith;
-              earlier_child = first-child is_row;
-              earlier_default = a.default is_row;
-            },
-            lower,
-          )
+    -- so the next default from the first one's end on is the second
+    pub second_is : Sized w → p < row_count w → {m : ℕ} → m ≡ size w f → (k : Option ℕ) → NextDefault w (p + n) (f + m) k → SecondOf w p k
+    second_is sized h y none b = λ r s. both s.default (b r (rw (y, z) (after_first r s)))
+    second_is sized h {m} y (some k) b =
+        let g = sized.some_rows f (first_row sized h) in
+        let i : Item w (end w p) (end w f) k = rw (← y, ← z) b.0 in
+        let l = item_from i in (
+          record {
+            child = item-later (child a.0) i;
+            default = b.1;
+            earlier = f;
+            before = omega arith;
+            earlier_child = child a.0;
+            earlier_default = a.1;
+          },
+          λ r l s. both s.default (b.2 r (rw (y, z) (after_first r s)) l),
+        )
 
 -- ---- the lowest of all: the rows before r were looked at, and m is the lowest second default found, or the number of rows
 pub record Lowest (w : List ℕ) (m r : ℕ) : Type 0 where

@@ -10,12 +10,10 @@ use Rattle.rules.specs.Body.{SecondChild, OneDefault}
 abbrev pub Inside : List ℕ → Type 0
 Inside w = (p c : ℕ) → p < row_count w → Child w p c → end w c ≤ end w p
 
--- of the rows from c on, stepped through by size, before e, k is the first default clause, or e where there is none
-pub record NextDefault (w : List ℕ) (e c k : ℕ) : Type 0 where
-  pub high : k ≤ e
-  pub item : k < e → Item w e c k
-  pub default : k < e → is_default (base w k) ≡ true
-  pub before : (s : ℕ) → Item w e c s → s < k → is_default (base w s) ≡ false
+-- of the rows from c on, stepped through by size, before e, the first default clause, or none
+abbrev pub NextDefault : List ℕ → ℕ → ℕ → Option ℕ → Type 0
+NextDefault w e c none = (s : ℕ) → Item w e c s → is_default (base w s) ≡ false
+NextDefault w e c (some k) = Item w e c k × (is_default (base w k) ≡ true) × ((s : ℕ) → Item w e c s → s < k → is_default (base w s) ≡ false)
 
 -- the second default among the children of p, or none
 abbrev pub SecondOf : List ℕ → ℕ → Option ℕ → Type 0

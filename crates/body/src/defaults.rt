@@ -8,34 +8,30 @@ ghost use Rattle.rules.specs.Body.{Sized, Detailed};
 ghost use Rattle.rows.specs.Found.{row_found};
 ghost use Rattle.body.specs.Defaults.{Inside, NextDefault, SecondOf};
 
+use rows::RowNumber;
 use rows::kinds::Kind;
-use rows::{RowNumber, details};
 
 // Whether the row is a default clause.
 fn is_default(rows: &[u32], row: RowNumber) -> bool
     requires { (row.0 < row_count rows.now) × Detailed rows.now }
     ensures { result ≡ is_default (base rows.now row.0) }
 {
-    if rows::detail(rows, row) != details::DEFAULT {
-        return false;
-    }
-    matches!(rows::kind_at(rows, row), Kind::Case | Kind::Comm)
+    rows::is_marked(rows, row) && matches!(rows::kind_at(rows, row), Kind::Case | Kind::Comm)
 }
 
-// The first default clause of the rows from `from` on, stepped through by size, before `end`; `end`
-// where there is none.
-fn next_default(rows: &[u32], from: usize, end: usize) -> usize
+// The first default clause of the rows from `from` on, stepped through by size, before `end`.
+fn next_default(rows: &[u32], from: usize, end: usize) -> Option<RowNumber>
     requires { (end ≤ row_count rows.now) × (row_count rows.now ≤ 2000) × Sized rows.now × Detailed rows.now }
-    ensures { NextDefault rows.now end from result }
+    ensures { NextDefault rows.now end from (row_found result) }
 {
     let mut c = from;
     while c < end {
         if is_default(rows, RowNumber(c)) {
-            return c;
+            return Some(RowNumber(c));
         }
         c += rows::size(rows, RowNumber(c));
     }
-    end
+    None
 }
 
 // The second default among the children of the row.
@@ -44,15 +40,8 @@ fn second_default(rows: &[u32], row: RowNumber) -> Option<RowNumber>
     ensures { SecondOf rows.now row.0 (row_found result) }
 {
     let end = row.0 + rows::size(rows, row);
-    let first = next_default(rows, row.0 + 1, end);
-    if first == end {
-        return None;
-    }
-    let second = next_default(rows, first + rows::size(rows, RowNumber(first)), end);
-    if second == end {
-        return None;
-    }
-    Some(RowNumber(second))
+    let first = next_default(rows, row.0 + 1, end)?;
+    next_default(rows, first.0 + rows::size(rows, first), end)
 }
 
 // The lowest clause that is a second default, once sizes, details and shapes are right.

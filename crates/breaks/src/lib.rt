@@ -8,8 +8,9 @@ ghost use Rattle.breaks.specs.Leaves.{Closed, leaves, any_leaves};
 
 use body::Body;
 use names::NameNumber;
+use rows::RowNumber;
+use rows::details::Branch;
 use rows::kinds::Kind;
-use rows::{RowNumber, details};
 
 // Whether the Branch row is a break that goes to the labelled statement or, where `implicit`, to the
 // closest outer one.
@@ -17,7 +18,7 @@ fn is_break(body: Body<'_>, row: RowNumber, label: NameNumber, implicit: bool) -
     requires { (row.0 < row_count body.rows.now) × (kind body.rows.now row.0 ≡ 11) }
     ensures { result ≡ leaves body.entry.rows.now body.entry.pairs.now body.entry.bytes.now row.0 label.0 implicit row.0 }
 {
-    if rows::detail(body.rows, row) != details::BREAK {
+    if rows::branch_at(body.rows, row) != Branch::Break {
         return false;
     }
     let name = rows::name(body.rows, row);

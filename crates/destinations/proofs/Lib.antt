@@ -1,4 +1,3 @@
-pub mod BranchClass
 pub mod BoundTo
 pub mod Referred
 pub mod Falling

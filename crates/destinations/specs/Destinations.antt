@@ -8,7 +8,8 @@ use Rattle.rules.specs.Labels.{binding}
 use Rattle.rules.specs.Runner.{at, step}
 use Rattle.rules.specs.Walking.{Faultless, place_of}
 use Rattle.afters.specs.Afters.{Afters}
-use Rattle.enclosing.specs.Enclosing.{Enclosing}
+use Rattle.enclosing.specs.declared.Enclosing.{Enclosing}
+use Rattle.enclosing.specs.Enclosing.{breakable_word, loop_word, case_word, Enclosing as IsEnclosing}
 
 -- each row's word is its binding
 pub record Bound (w p b t : List ℕ) : Type 0 where
@@ -16,17 +17,15 @@ pub record Bound (w p b t : List ℕ) : Type 0 where
   pub words : (r : ℕ) → r < row_count w → get_or t r 0 ≡ binding w p b r
 
 -- a body without a fault, with what its branches go by: bindings, places after rows, and the rows around rows
-pub record Tables (w p b bindings afters breakables loops cases : List ℕ) : Type 0 where
+pub record Tables (w p b bindings afters : List ℕ) (enclosing : List Enclosing) : Type 0 where
   pub faultless : Faultless w p b
   pub bound : Bound w p b bindings
   pub afters_room : row_count w ≤ length afters
   pub after_rows : Afters w afters
-  pub breakables_room : row_count w ≤ length breakables
-  pub breakable_rows : Enclosing w is_breakable breakables
-  pub loops_room : row_count w ≤ length loops
-  pub loop_rows : Enclosing w is_loop loops
-  pub cases_room : row_count w ≤ length cases
-  pub case_rows : Enclosing w is_case cases
+  pub enclosing_room : row_count w ≤ length enclosing
+  pub breakable_rows : IsEnclosing w is_breakable breakable_word enclosing
+  pub loop_rows : IsEnclosing w is_loop loop_word enclosing
+  pub case_rows : IsEnclosing w is_case case_word enclosing
 
 -- each of the first x words is the place that its row goes to, if that is a Branch
 abbrev pub DestinationsBelow : List ℕ → List ℕ → List ℕ → List ℕ → ℕ → Type 0

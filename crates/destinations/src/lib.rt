@@ -13,8 +13,10 @@ ghost use Rattle.afters.specs.Afters.{Afters};
 ghost use Rattle.destinations.specs.Destinations.{Bound, Tables, Destinations};
 
 use body::Body;
+use enclosing::Enclosing;
+use rows::RowNumber;
+use rows::details::Branch;
 use rows::kinds::Kind;
-use rows::{RowNumber, details};
 
 // A well-formed body with an empty sheet and good placing, and its bindings.
 #[derive(Clone, Copy)]
@@ -25,14 +27,11 @@ pub struct FaultlessBody<'a> {
     ghost bound: { Bound body.rows.now body.pairs.now body.bytes.now bindings.now },
 }
 
-// What a Branch goes by, a word a row: the place after the row, and 1 + the innermost statement that a
-// break leaves, loop and Case around it, or 0.
+// What a Branch goes by, of each row: the place after it, and the rows around it.
 #[derive(Clone, Copy)]
 struct Around<'t> {
     afters: &'t [u16],
-    breakables: &'t [u16],
-    loops: &'t [u16],
-    cases: &'t [u16],
+    enclosing: &'t [Enclosing],
 }
 
 // The row after the label of binding word `binding`, which is the word's own number, or the row of
@@ -49,21 +48,22 @@ fn statement(binding: u32, inner: u16) -> usize
 
 // The place that the Branch goes to.
 fn destination(faultless: FaultlessBody<'_>, around: Around<'_>, r: usize) -> usize
-    requires tables { Tables faultless.body.rows.now faultless.body.pairs.now faultless.body.bytes.now faultless.bindings.now around.afters.now around.breakables.now around.loops.now around.cases.now }
+    requires tables { Tables faultless.body.rows.now faultless.body.pairs.now faultless.body.bytes.now faultless.bindings.now around.afters.now around.enclosing.now }
     requires r_bound { (r < row_count faultless.body.rows.now) × (kind faultless.body.rows.now r ≡ 11) }
     ensures { (step faultless.entry.body.rows.now faultless.entry.body.pairs.now faultless.entry.body.bytes.now (at r) 0 ≡ some (place_of result)) × (result < 65536) }
 {
     let rows = faultless.body.rows;
     let binding = faultless.bindings[r];
-    match rows::detail(rows, RowNumber(r)) {
-        details::BREAK => {
-            let left = statement(binding, around.breakables[r]);
+    let within = around.enclosing[r];
+    match rows::branch_at(rows, RowNumber(r)) {
+        Branch::Break => {
+            let left = statement(binding, within.breakable);
             usize::from(around.afters[left])
         }
-        details::CONTINUE => statement(binding, around.loops[r]) + 2,
-        details::GOTO => binding as usize + 1,
-        _ => {
-            let case = usize::from(around.cases[r]) - 1;
+        Branch::Continue => statement(binding, within.repeated) + 2,
+        Branch::Goto => binding as usize + 1,
+        Branch::Fallthrough => {
+            let case = usize::from(within.case) - 1;
             let next = case + rows::size(rows, RowNumber(case));
             next + 2
         }
@@ -72,7 +72,7 @@ fn destination(faultless: FaultlessBody<'_>, around: Around<'_>, r: usize) -> us
 
 // Writes the place that each Branch goes to, by the tables of the rows around each row.
 fn write_destinations(faultless: FaultlessBody<'_>, around: Around<'_>, destinations: &mut [u16])
-    requires tables { Tables faultless.body.rows.now faultless.body.pairs.now faultless.body.bytes.now faultless.bindings.now around.afters.now around.breakables.now around.loops.now around.cases.now }
+    requires tables { Tables faultless.body.rows.now faultless.body.pairs.now faultless.body.bytes.now faultless.bindings.now around.afters.now around.enclosing.now }
     requires rows_in_bounds { row_count faultless.body.rows.now ≤ length destinations.old }
     ensures { Destinations faultless.entry.body.rows.now faultless.entry.body.pairs.now faultless.entry.body.bytes.now destinations.new }
 {
@@ -95,21 +95,15 @@ pub fn destinations_of(
     requires rows_in_bounds { (row_count faultless.body.rows.now ≤ length parents.now) × (row_count faultless.body.rows.now ≤ length afters.now) × (row_count faultless.body.rows.now ≤ length destinations.old) }
     ensures { Destinations faultless.entry.body.rows.now faultless.entry.body.pairs.now faultless.entry.body.bytes.now destinations.new }
 {
-    let mut breakables = [0u16; 2000];
-    let mut loops = [0u16; 2000];
-    let mut cases = [0u16; 2000];
-    enclosing::enclosing_of(
-        faultless.body.rows,
-        parents,
-        &mut breakables,
-        &mut loops,
-        &mut cases,
-    );
+    let mut enclosing = [Enclosing {
+        breakable: 0,
+        repeated: 0,
+        case: 0,
+    }; 2000];
+    enclosing::enclosing_of(faultless.body.rows, parents, &mut enclosing);
     let around = Around {
         afters,
-        breakables: &breakables,
-        loops: &loops,
-        cases: &cases,
+        enclosing: &enclosing,
     };
     write_destinations(faultless, around, destinations);
 }

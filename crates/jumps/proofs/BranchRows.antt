@@ -1,84 +1,84 @@
 -- A Branch row's detail says its class, and a target is valid by the kind of the row below its label.
 -- Assumes nothing.
-use mathlib.Core.Path.{◌≡◌, sym, ◌∙◌, ap}
+use mathlib.Core.Path.{◌≡◌, refl, sym, ◌∙◌}
 use mathlib.Core.Bool.{Bool, true, false}
 use mathlib.Core.List.{List, [], ◌∷◌}
+use mathlib.Core.Logic.{◌⊎◌, inl, inr}
 use mathlib.Core.Option.{some}
-use Prim.Native.Nat.{ℕ, ◌+◌, ◌≤◌, ◌<◌}
+use Prim.Native.Nat.{ℕ, ◌+◌, ◌<◌}
 use native.Mathlib.Numerals.{add-one}
 use native.Mathlib.Omega.{arith}
 use native.Mathlib.Decide.{ℕ_discrete}
-use lib.Dec.{eqb}
-use borrow.Author.Tests.{eqb-true, ne_eqb, ltb-true}
+use borrow.Author.Tests.{eqb-true, ltb-true}
 use Rattle.rules.specs.Rows.{row_count, kind, detail}
-use Rattle.rules.specs.Class.{break, continue, goto, fallthrough, one_of, is_branch, is_breakable, is_loop, class, class_of, base, detail_allowed}
+use Rattle.rules.specs.Class.{break, continue, goto, fallthrough, one_of, is_branch, is_breakable, is_loop, class, class_of, detail_allowed}
 use Rattle.rules.specs.Body.{Body}
 use Rattle.rules.specs.Labels.{needs, target, valid_target}
 use Rattle.rules.proofs.Test.{clash}
-use Rattle.rules.proofs.Classes.{no_block}
 use Rattle.rules.proofs.ClassTests.{break-branch}
-use Rattle.rules.proofs.Lists.{branch-kind, own-breakable, own-loop, by-words}
+use Rattle.rules.proofs.Lists.{branch-kind, branch-class, own-breakable, own-loop, by-words}
 use Rattle.rules.proofs.BreakRows.{valid-found}
+use Rattle.rows.specs.Branches.{number}
+use Rattle.rows.specs.declared.details.Branch.{Branch}
+use Rattle.rows.specs.declared.details.Branch.TheVariants.{Break, Continue}
+use Rattle.rows.proofs.Branches.{is-branch}
 use Rattle.tables.proofs.Labelling.{label-class}
 use Rattle.jumps.proofs.BlockLabels.{target-label}
 
 -- ---- the detail
-module _ (w : List ℕ) (r : ℕ) (a : detail_allowed (kind w r) (detail w r) ≡ true) (t : is_branch (class w r) ≡ true) where
-  is-11 : kind w r ≡ 11
-  is-11 = eqb-true (kind w r) 11 (branch-kind w r a ∙ t)
+module _ (w : List ℕ) (r : ℕ) (a : detail_allowed (kind w r) (detail w r) ≡ true) where
+  module _ (t : is_branch (class w r) ≡ true) where
+    pub branch-11 : kind w r ≡ 11
+    branch-11 = eqb-true (kind w r) 11 (branch-kind w r a ∙ t)
 
-  branch-class : class w r ≡ class_of 11 (detail w r)
-  unfolding base
-  branch-class =
-      let e : eqb (kind w r) 12 ≡ false = ne_eqb (kind w r) 12 (λ i. omega (arith, is-11)) in
-      no_block w r a e ∙ ap (λ (k : ℕ). class_of k (detail w r)) is-11
+    by-detail : (n : ℕ) → detail w r ≡ n → class w r ≡ class_of 11 n
+    by-detail n = branch-class w r (detail w r) n a branch-11 refl
 
-  pub detail-below : detail w r < 4
-  unfolding detail_allowed
-  detail-below =
-      let e : detail_allowed 11 (detail w r) ≡ true = rw is-11 at a in
-      ltb-true (detail w r) 4 e
+    detail-below : detail w r < 4
+    unfolding detail_allowed
+    detail-below =
+        let e : detail_allowed 11 (detail w r) ≡ true = rw branch-11 at a in
+        ltb-true (detail w r) 4 e
 
-  pub detail-break : detail w r ≡ 0 → class w r ≡ break
-  unfolding class_of
-  detail-break e = branch-class ∙ ap (class_of 11) e
+    detail-break : detail w r ≡ 0 → class w r ≡ break
+    unfolding class_of
+    detail-break = by-detail 0
 
-  pub detail-continue : detail w r ≡ 1 → class w r ≡ continue
-  unfolding class_of
-  detail-continue e = branch-class ∙ ap (class_of 11) e
+    detail-continue : detail w r ≡ 1 → class w r ≡ continue
+    unfolding class_of
+    detail-continue = by-detail 1
 
-  pub detail-goto : detail w r ≡ 2 → class w r ≡ goto
-  unfolding class_of
-  detail-goto e = branch-class ∙ ap (class_of 11) e
+    pub detail-goto : detail w r ≡ 2 → class w r ≡ goto
+    unfolding class_of
+    detail-goto = by-detail 2
 
-  pub detail-fallthrough : detail w r ≡ 3 → class w r ≡ fallthrough
-  unfolding class_of
-  detail-fallthrough e = branch-class ∙ ap (class_of 11) e
+    pub detail-fallthrough : detail w r ≡ 3 → class w r ≡ fallthrough
+    unfolding class_of
+    detail-fallthrough = by-detail 3
 
-  pub other-break : (detail w r ≡ 3 → ⊥) → (detail w r ≡ 2 → ⊥) → one_of (break ∷ continue ∷ []) (class w r) ≡ true
-  other-break m n = elim (ℕ_discrete (detail w r) 0) [
-    | yes i ↦ rw (detail-break i)
-    | no o ↦ let h = detail-below in rw (detail-continue (omega arith))
-  ]
+    pub detail-jumps : (k : Branch) → number k ≡ detail w r → (k ≡ Break) ⊎ (k ≡ Continue) → one_of (break ∷ continue ∷ []) (class w r) ≡ true
+    detail-jumps k e (inl i) = rw (detail-break (is-branch e i))
+    detail-jumps k e (inr i) = rw (detail-continue (is-branch e i))
 
-module _ (w : List ℕ) (r : ℕ) (a : detail_allowed (kind w r) (detail w r) ≡ true) (t : one_of (break ∷ continue ∷ []) (class w r) ≡ true) where
-  -- a break or continue has the detail 0 or 1
-  pub break-detail : detail w r ≤ 1
-  break-detail =
-      let u = break-branch (class w r) t in
-      elim (ℕ_discrete (detail w r) 2) [
-        | yes i ↦ let z : false ≡ true = rw (detail-goto w r a u i) at t in absurd (clash (cc))
-        | no n ↦ elim (ℕ_discrete (detail w r) 3) [
-          | yes i ↦ let z : false ≡ true = rw (detail-fallthrough w r a u i) at t in absurd (clash (cc))
-          | no m ↦ omega (arith, detail-below w r a u)
-        ]
+  -- a break or continue is what its detail says, 0 or not
+  module _ (t : one_of (break ∷ continue ∷ []) (class w r) ≡ true) where
+    branch : is_branch (class w r) ≡ true
+    branch = break-branch (class w r) t
+
+    pub break-11 : kind w r ≡ 11
+    break-11 = branch-11 branch
+
+    pub zero-break : detail w r ≡ 0 → class w r ≡ break
+    zero-break = detail-break branch
+
+    pub not-zero-continue : (detail w r ≡ 0 → ⊥) → class w r ≡ continue
+    not-zero-continue n = elim (ℕ_discrete (detail w r) 1) [
+      | yes i ↦ detail-continue branch i
+      | no o ↦ elim (ℕ_discrete (detail w r) 2) [
+        | yes i ↦ let z : false ≡ true = rw (detail-goto branch i) at t in absurd (clash (cc))
+        | no m ↦ let z : false ≡ true = rw (detail-fallthrough branch (omega (arith, detail-below branch))) at t in absurd (clash (cc))
       ]
-
-  pub zero-break : detail w r ≡ 0 → class w r ≡ break
-  zero-break e = detail-break w r a (break-branch (class w r) t) e
-
-  pub not-zero-continue : (detail w r ≡ 0 → ⊥) → class w r ≡ continue
-  not-zero-continue n = let d = break-detail in detail-continue w r a (break-branch (class w r) t) (omega arith)
+    ]
 
 -- ---- the target
 module _ {w p b : List ℕ} (body : Body w p b) (g : ℕ) (row : g < row_count w) (t : ℕ) (e : some t ≡ target w p b g) where

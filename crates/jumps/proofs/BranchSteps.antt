@@ -19,7 +19,7 @@ use Rattle.rules.specs.Labels.{fault, is_label, labelled_break, valid_target, ea
 use Rattle.rules.proofs.Test.{clash}
 use Rattle.rules.proofs.Every.{every}
 use Rattle.rules.proofs.ClassRules.{class-rule}
-use Rattle.rules.proofs.ClassTests.{break-branch, branch-goto, branch-fallthrough}
+use Rattle.rules.proofs.ClassTests.{break-branch, branch-goto}
 use Rattle.rules.proofs.RowNames.{goto-named}
 use Rattle.rules.proofs.GotoRows.{is-earlier}
 use Rattle.rules.proofs.BreakRows.{labelled-is, other-labelled, is-valid}
@@ -30,7 +30,7 @@ use Rattle.walk_state.specs.Walk.{binding_at, Walking, Walked}
 use Rattle.tables.proofs.Labelling.{row-canon-within}
 use Rattle.walk_state.proofs.TableRows.{canon-read, declared-read}
 use Rattle.jumps.proofs.BlockLabels.{target-named}
-use Rattle.jumps.proofs.BranchRows.{zero-break, not-zero-continue, break-detail}
+use Rattle.jumps.proofs.BranchRows.{detail-fallthrough, zero-break, not-zero-continue}
 use Rattle.walk_state.proofs.WalkBindings.{at-goto, at-later, at_other, later-own}
 use Rattle.walk_state.proofs.WalkPending.{pending-other, pending-earlier, pending-own}
 use Rattle.walk_state.proofs.WalkRoom.{faults-fit}
@@ -79,20 +79,23 @@ module _ {w p b cs ds ls : List ℕ} {upto : ℕ} (t : Tables w p b cs ds ls upt
         l (pending-other w p b (suc x) x n) (goto-or-label-other w p b x l (no_block (class w x) br) walking.block_labels) (λ g o. refl)
 
   -- ---- a fallthrough with a label
-  module _ (c : class w x ≡ fallthrough) (z : name w x ≡ 0 → ⊥) where
+  module _ (br : is_branch (class w x) ≡ true) (d : 3 ≡ detail w x) (z : 0 < name w x) where
+    falls : class w x ≡ fallthrough
+    falls = detail-fallthrough w x (t.body.details x row) br (sym d)
+
     falls-report : report w p b x ≡ fault w 6 x ∷ []
-    falls-report = report-fallthrough w p b x (branch-label w p b x (branch-fallthrough (class w x) c)) (other-labelled w p b x (rw c))
-        (record { falls-through = c; has-name = omega arith })
+    falls-report = report-fallthrough w p b x (branch-label w p b x br) (other-labelled w p b x (rw falls))
+        (record { falls-through = falls; has-name = z })
 
     pub fallthrough-fits : faults * 4 + 4 ≤ length s
-    fallthrough-fits = one-fits w p b x faults s bs h l row (branch-label w p b x (branch-fallthrough (class w x) c)) walking (fault w 6 x) falls-report
+    fallthrough-fits = one-fits w p b x faults s bs h l row (branch-label w p b x br) walking (fault w 6 x) falls-report
 
-    pub fallthrough-walked : (s' : List ℕ) → s' ≡ sets s (faults * 4) (6 ∷ position w x ∷ name w x ∷ 0 ∷ []) → Walked w p b (suc x) (faults + 1) s bs s' bs h l
-    fallthrough-walked s' i =
-        let br = branch-fallthrough (class w x) c in
-        let n : class w x ≡ goto → ⊥ = λ e. clash (cc) in
+    pub fallthrough-walked : (s' : List ℕ) → s' ≡ sets s (faults * 4) (6 ∷ position w x ∷ name w x ∷ 0 ∷ [])
+        → Walked w p b (suc x) (faults + 1) s bs s' bs h l
+    fallthrough-walked =
+        let n : class w x ≡ goto → ⊥ = λ e. clash (cc (falls)) in
         reported br n 6 falls-report
-        (at_other w p b (suc x) x n ∙ binding-other w p b x (branch-label w p b x br) n (other-labelled w p b x (rw c))) s' i
+        (at_other w p b (suc x) x n ∙ binding-other w p b x (branch-label w p b x br) n (other-labelled w p b x (rw falls)))
 
   -- ---- a break or continue with a label
   module _ (k : one_of (break ∷ continue ∷ []) (class w x) ≡ true) (z : 0 < name w x) where
@@ -120,26 +123,31 @@ module _ {w p b cs ds ls : List ℕ} {upto : ℕ} (t : Tables w p b cs ds ls upt
         (declared-read t x c v row e (valid-numbered c e (sym u)) f
         ∙ sym (at_other w p b (suc x) x no-goto ∙ binding-break w p b x n no-goto labelled (sym u)))
 
-    break-report : (code : ℕ) → code ≡ 4 + detail w x → valid_target w p b x ≡ false → report w p b x ≡ fault w code x ∷ []
-    break-report code e f =
-        let a = t.body.details x row in
-        let n = branch-label w p b x branch in
-        elim (ℕ_discrete (detail w x) 0) [
-          | yes i ↦ let j : code ≡ 4 = omega arith in rw j (report-break w p b x n labelled f (zero-break w x a k i))
-          | no o ↦
-              let m = break-detail w x a k in
-              let j : code ≡ 5 = omega arith in
-              rw j (report-continue w p b x n labelled f (not-zero-continue w x a k o))
-        ]
+    -- without a valid target
+    module _ (f : false ≡ valid_target w p b x) where
+      unbound : binding_at w p b (suc x) x ≡ 0
+      unbound = at_other w p b (suc x) x no-goto ∙ binding-invalid w p b x (branch-label w p b x branch) no-goto (sym f)
 
-    module _ (code : ℕ) (e : code ≡ 4 + detail w x) (f : false ≡ valid_target w p b x) where
-      pub break-fits : faults * 4 + 4 ≤ length s
-      break-fits = one-fits w p b x faults s bs h l row (branch-label w p b x branch) walking (fault w code x) (break-report code e (sym f))
+      break-report : detail w x ≡ 0 → report w p b x ≡ fault w 4 x ∷ []
+      break-report e = report-break w p b x (branch-label w p b x branch) labelled (sym f) (zero-break w x (t.body.details x row) k e)
 
-      pub break-walked : (s' : List ℕ) → s' ≡ sets s (faults * 4) (code ∷ position w x ∷ name w x ∷ 0 ∷ []) → Walked w p b (suc x) (faults + 1) s bs s' bs h l
-      break-walked s' i =
-          reported branch no-goto code (break-report code e (sym f))
-          (at_other w p b (suc x) x no-goto ∙ binding-invalid w p b x (branch-label w p b x branch) no-goto (sym f)) s' i
+      continue-report : (detail w x ≡ 0 → ⊥) → report w p b x ≡ fault w 5 x ∷ []
+      continue-report n = report-continue w p b x (branch-label w p b x branch) labelled (sym f) (not-zero-continue w x (t.body.details x row) k n)
+
+      pub invalid-fits : faults * 4 + 4 ≤ length s
+      invalid-fits = elim (ℕ_discrete (detail w x) 0) [
+        | yes e ↦ one-fits w p b x faults s bs h l row (branch-label w p b x branch) walking (fault w 4 x) (break-report e)
+        | no n ↦ one-fits w p b x faults s bs h l row (branch-label w p b x branch) walking (fault w 5 x) (continue-report n)
+      ]
+
+      module _ (s' : List ℕ) where
+        pub break-walked : detail w x ≡ 0 → s' ≡ sets s (faults * 4) (4 ∷ position w x ∷ name w x ∷ 0 ∷ [])
+            → Walked w p b (suc x) (faults + 1) s bs s' bs h l
+        break-walked e = reported branch no-goto 4 (break-report e) unbound s'
+
+        pub continue-walked : (detail w x ≡ 0 → ⊥) → s' ≡ sets s (faults * 4) (5 ∷ position w x ∷ name w x ∷ 0 ∷ [])
+            → Walked w p b (suc x) (faults + 1) s bs s' bs h l
+        continue-walked n = reported branch no-goto 5 (continue-report n) unbound s'
 
   -- ---- a goto
   module _ (c : class w x ≡ goto) where

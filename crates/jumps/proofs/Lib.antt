@@ -1,4 +1,5 @@
 pub mod BlockLabels
+pub mod EarlierLabel
 pub mod ListClimb
 pub mod BranchRows
 pub mod BranchSteps

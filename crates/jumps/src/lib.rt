@@ -10,8 +10,10 @@ ghost use Rattle.rows.specs.Found.{row_found};
 ghost use Rattle.walk_state.specs.Walk.{BlockLabels, Walking, Walked};
 
 use body::Body;
+use rows::RowNumber;
+use rows::details::Branch;
 use rows::kinds::Kind;
-use rows::{RowNumber, details};
+use sheet::Code;
 use tables::Tables;
 
 // The declared label, where it stands before the goto in a list around it.
@@ -24,23 +26,15 @@ fn goto_target(body: Body<'_>, tables: Tables<'_>, row: RowNumber) -> Option<Row
     if c == 0 {
         return None;
     }
-    let declared = usize::from(tables.label_rows[c]);
-    if declared == 0 {
+    let label = rows::row_of(tables.label_rows[c])?;
+    if row.0 <= label.0 {
         return None;
     }
-    let label = declared - 1;
-    if row.0 <= label {
+    let list = rows::row_of(tables.lists[label.0])?;
+    if list.0 + rows::size(body.rows, list) <= row.0 {
         return None;
     }
-    let list = usize::from(tables.lists[label]);
-    if list == 0 {
-        return None;
-    }
-    let l = list - 1;
-    if l + rows::size(body.rows, RowNumber(l)) <= row.0 {
-        return None;
-    }
-    Some(RowNumber(label))
+    Some(label)
 }
 
 // The label of the innermost Block around the branch that belongs to a statement with the branch's
@@ -60,19 +54,17 @@ fn enclosing_target(
     if c == 0 {
         return None;
     }
-    let r = row.0;
-    let mut list = usize::from(tables.lists[r]);
-    while 0 < list {
-        let l = list - 1;
-        if rows::kind_at(body.rows, RowNumber(l)) == Kind::Block {
-            let label = usize::from(goto_or_label[l]);
-            if label != 0
-                && tables::canon_of(body.rows, tables.canonical, RowNumber(label - 1)) == c
-            {
-                return Some(RowNumber(label - 1));
+    let mut open = rows::row_of(tables.lists[row.0]);
+    while let Some(list) = open {
+        if rows::kind_at(body.rows, list) == Kind::Block {
+            let found = rows::row_of(goto_or_label[list.0]);
+            if let Some(label) = found {
+                if tables::canon_of(body.rows, tables.canonical, label) == c {
+                    return found;
+                }
             }
         }
-        list = usize::from(tables.lists[l]);
+        open = rows::row_of(tables.lists[list.0]);
     }
     None
 }
@@ -88,7 +80,7 @@ fn valid_target(body: Body<'_>, tables: Tables<'_>, goto_or_label: &[u16], row: 
         return false;
     };
     let kind = rows::kind_at(body.rows, RowNumber(label.0 + 1));
-    if rows::detail(body.rows, row) == details::BREAK {
+    if rows::branch_at(body.rows, row) == Branch::Break {
         kind.is_breakable()
     } else {
         kind.is_loop()
@@ -119,8 +111,11 @@ fn break_branches(
         bindings[r] = u32::from(tables.label_rows[c]);
         return faults;
     }
-    let code = 4 + rows::detail(body.rows, row);
-    sheet::put(body.rows, sheet, faults, code, row, 0);
+    let code = match rows::branch_at(body.rows, row) {
+        Branch::Break => Code::InvalidBreak,
+        _ => Code::InvalidContinue,
+    };
+    sheet::report(body.rows, sheet, faults, code, row, 0);
     faults + 1
 }
 
@@ -174,12 +169,12 @@ pub fn jump_branches(
     if name.0 == 0 {
         return faults;
     }
-    match rows::detail(body.rows, row) {
-        details::FALLTHROUGH => {
-            sheet::put(body.rows, sheet, faults, 6, row, 0);
+    match rows::branch_at(body.rows, row) {
+        Branch::Fallthrough => {
+            sheet::report(body.rows, sheet, faults, Code::LabelledFallthrough, row, 0);
             faults + 1
         }
-        details::GOTO => {
+        Branch::Goto => {
             goto_branches(
                 body,
                 tables,
@@ -192,7 +187,7 @@ pub fn jump_branches(
             );
             faults
         }
-        _ => break_branches(
+        Branch::Break | Branch::Continue => break_branches(
             body,
             tables,
             sheet,

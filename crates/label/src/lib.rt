@@ -1,8 +1,8 @@
 // Port of goscript's label.rs: the label call. It writes the sheet of label faults and the bindings.
 //
-// The walk is goscript's, over the rows in order; what goscript hands down as context stands in two
-// tables by the list's row. A name is its canonical number, 0 for none and for `_`. A row is written
-// as 1 + its number where 0 stands for none.
+// The walk is goscript's, over the rows in order; what goscript hands down as context stands in a
+// table by the list's row. A name is its canonical number, 0 for none and for `_`. In the tables a row
+// is written as 1 + its number, and 0 stands for none.
 #![tactic(auto)]
 
 ghost use Rattle.std.specs.Prelude.{◌≡◌, true, ◌*◌, ◌≤◌, length};

@@ -1,12 +1,12 @@
 -- The walk of a body from its start to its end: the walk's state at row 0, and what stands on the sheet and in the bindings when all is reported.
 -- Assumes nothing.
-use mathlib.Core.Path.{◌≡◌, refl, sym, ◌∙◌, ap}
-use mathlib.Core.Bool.{Bool, false}
+use mathlib.Core.Path.{◌≡◌, sym, ◌∙◌, ap}
+use mathlib.Core.Bool.{Bool}
 use mathlib.Core.List.{List, [], ◌∷◌}
 use mathlib.Core.Option.{Option, none}
-use Prim.Native.Nat.{ℕ, zero, suc, ◌*◌, ◌≤◌, ◌<◌}
+use Prim.Native.Nat.{ℕ, suc, ◌*◌, ◌≤◌, ◌<◌}
 use native.Mathlib.Omega.{arith}
-use lib.ListN.{length, get_or, take, replicate, length-replicate, length-append}
+use lib.ListN.{length, get_or, take, length-append}
 use lib.Seq.{ext_get_or, length-take-le, get_or-take}
 use Rattle.rules.specs.Rows.{row_count}
 use Rattle.rules.specs.Class.{goto, class}
@@ -19,13 +19,14 @@ use Rattle.rules.proofs.Scan.{none-highest}
 use Rattle.rules.proofs.Each.{each-length, each_at}
 use Rattle.rules.proofs.ClassTests.{one-is}
 use Rattle.rules.proofs.Every.{is_one}
+use Rattle.context.specs.declared.Context.{Context}
 use Rattle.tables.specs.Canon.{CanonTable, DeclaredTable, Tables}
 use Rattle.walk_state.specs.Walk.{Walking, Walked, faults_at, binding_at, previous_pending}
 use Rattle.walk_state.proofs.WalkFaults.{faults-zero, drop-further}
 use Rattle.walk_state.proofs.WalkBindings.{bindings_zero, are-bindings, word-before, at_other}
 use Rattle.walk_state.proofs.WalkPending.{waits}
 use Rattle.label_rest.specs.Rest.{Reported, faults_left}
-use Rattle.label_body.specs.Answered.{Blank, Lent, Answered}
+use Rattle.label_body.specs.Answered.{Lent, Answered}
 use Rattle.label_rest.proofs.LeftRows.{branch-word}
 use Rattle.label_rest.proofs.UnusedRows.{nines_to, nines-sheet}
 
@@ -35,8 +36,8 @@ module _ (w p b : List ℕ) where
   unfolding previous_pending
   nothing-pending c = none-highest (waits w p b 0 c) 0 (λ k h. absurd (omega arith))
 
-  pub walking_start : (cs ds ls s t h l d m : List ℕ) (u : List Bool) → Lent w p cs ds ls s t h l d m u → Walking w p b 0 0 s t h l
-  walking_start cs ds ls s t h l d m u lent = record {
+  pub walking_start : {cs ds ls s t h l : List ℕ} {c : List (Context ℕ)} {u : List Bool} → Lent w p cs ds ls s t h l c u → Walking w p b 0 0 s t h l
+  walking_start {t = t} lent = record {
     rows = omega arith;
     count = ap length (sym (faults-zero w p b));
     sheet_room = lent.sheet_room;
@@ -96,33 +97,3 @@ module _ {w p b : List ℕ} (body : Body w p b) where
             (λ g r. are-bindings w p b (row_count w) t' g x.state.bound r ∙ word-before w p b (row_count w) g r ∙ end-word g);
         bindings_kept = x.bindings_kept;
       }
-
--- ---- tables of 0
-at_each : {A : Type 0} (n : ℕ) (x : A) (i : ℕ) → get_or (replicate n x) i x ≡ x
-at_each zero x i = refl
-at_each (suc n) x zero = refl
-at_each (suc n) x (suc i) = at_each n x i
-
-pub lent-zeros : {w p : List ℕ} (m n : ℕ) (s t : List ℕ) → (count_of_pairs p < m) × (row_count w ≤ n) → Blank w s t
-    → Lent w p (replicate m 0) (replicate m 0) (replicate n 0) s t (replicate m 0) (replicate n 0) (replicate n 0) (replicate n 0) (replicate m false)
-lent-zeros {w} {p} m n s t room blank =
-    let names : count_of_pairs p < length {A = ℕ} (replicate m 0) = omega (arith, length-replicate {A = ℕ} m 0) in
-    let rows : row_count w ≤ length {A = ℕ} (replicate n 0) = omega (arith, length-replicate {A = ℕ} n 0) in
-    record {
-      canonical_room = names;
-      label_rows_room = names;
-      lists_room = rows;
-      sheet_room = blank.sheet_room;
-      bindings_room = blank.bindings_room;
-      heads_room = names;
-      goto_or_label_room = rows;
-      latest_decls_room = rows;
-      latest_labels_room = rows;
-      used_room = omega (arith, length-replicate m false);
-      label_rows_zero = at_each m 0;
-      bindings_zero = blank.bindings_zero;
-      heads_zero = at_each m 0;
-      latest_decls_zero = at_each n 0;
-      latest_labels_zero = at_each n 0;
-      used_zero = at_each m false;
-    }

@@ -4,6 +4,8 @@ use Rattle.std.specs.Prelude.{◌≡◌, Bool, false, List, ℕ, ◌*◌, ◌≤
 use Rattle.rules.specs.Rows.{row_count}
 use Rattle.rules.specs.Names.{count_of_pairs}
 use Rattle.rules.specs.Labels.{sheet as sheet_of, bindings as bindings_of}
+use Rattle.context.specs.declared.Context.{Context}
+use Rattle.label_walk.specs.Contexts.{none_yet}
 use Rattle.label_rest.specs.Rest.{Reported}
 
 -- room for the sheet and the bindings, and each row's binding is 0
@@ -13,7 +15,7 @@ pub record Blank (w sheet bindings : List ℕ) : Type 0 where
   pub bindings_zero : (g : ℕ) → g < row_count w → get_or bindings g 0 ≡ 0
 
 -- room for each table, and 0 where the walk starts from 0
-pub record Lent (w p canonical label-rows lists sheet bindings heads goto-or-label latest-decls latest-labels : List ℕ) (used : List Bool) : Type 0 where
+pub record Lent (w p canonical label-rows lists sheet bindings heads goto-or-label : List ℕ) (contexts : List (Context ℕ)) (used : List Bool) : Type 0 where
   pub canonical_room : count_of_pairs p < length canonical
   pub label_rows_room : count_of_pairs p < length label-rows
   pub lists_room : row_count w ≤ length lists
@@ -21,14 +23,12 @@ pub record Lent (w p canonical label-rows lists sheet bindings heads goto-or-lab
   pub bindings_room : row_count w ≤ length bindings
   pub heads_room : count_of_pairs p < length heads
   pub goto_or_label_room : row_count w ≤ length goto-or-label
-  pub latest_decls_room : row_count w ≤ length latest-decls
-  pub latest_labels_room : row_count w ≤ length latest-labels
+  pub contexts_room : row_count w ≤ length contexts
   pub used_room : count_of_pairs p < length used
   pub label_rows_zero : (c : ℕ) → get_or label-rows c 0 ≡ 0
   pub bindings_zero : (g : ℕ) → g < row_count w → get_or bindings g 0 ≡ 0
   pub heads_zero : (c : ℕ) → get_or heads c 0 ≡ 0
-  pub latest_decls_zero : (l : ℕ) → get_or latest-decls l 0 ≡ 0
-  pub latest_labels_zero : (l : ℕ) → get_or latest-labels l 0 ≡ 0
+  pub contexts_zero : (l : ℕ) → get_or contexts l none_yet ≡ none_yet
   pub used_zero : (c : ℕ) → get_or used c false ≡ false
 
 -- the sheet's row count, and both written

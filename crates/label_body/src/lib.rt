@@ -7,6 +7,7 @@ ghost use Rattle.rules.specs.Names.{count_of_pairs};
 ghost use Rattle.label_body.specs.Answered.{Blank, Lent, Answered};
 
 use body::Body;
+use context::Context;
 
 // The walk and what is left at its end. The tables of the pending gotos are free by then, and serve
 // to sort the unused labels.
@@ -19,12 +20,11 @@ fn walk_body(
     bindings: &mut [u32],
     heads: &mut [u16],
     goto_or_label: &mut [u16],
-    latest_decls: &mut [u16],
-    latest_labels: &mut [u16],
+    contexts: &mut [Context<u16>],
     used: &mut [bool],
 ) -> usize
     requires lent { Lent body.rows.now body.pairs.now canonical.old label_rows.old lists.old sheet.old
-        bindings.old heads.old goto_or_label.old latest_decls.old latest_labels.old used.old }
+        bindings.old heads.old goto_or_label.old contexts.old used.old }
     ensures { Answered body.entry.rows.now body.entry.pairs.now body.entry.bytes.now result sheet.old bindings.old sheet.new
         bindings.new }
 {
@@ -39,8 +39,7 @@ fn walk_body(
         bindings,
         heads,
         goto_or_label,
-        latest_decls,
-        latest_labels,
+        contexts,
     );
     let more = label_rest::unresolved(body, canonical, label_rows, sheet, bindings, used, walked);
     label_rest::unused(body, label_rows, used, heads, goto_or_label, sheet, more)
@@ -66,8 +65,10 @@ pub fn walk<const NAMES: usize, const ROWS: usize>(
     let mut used = [false; NAMES];
     let mut lists = [0u16; ROWS];
     let mut goto_or_label = [0u16; ROWS];
-    let mut latest_decls = [0u16; ROWS];
-    let mut latest_labels = [0u16; ROWS];
+    let mut contexts = [Context {
+        latest: 0,
+        label: 0,
+    }; ROWS];
     walk_body(
         body,
         &mut canonical,
@@ -77,8 +78,7 @@ pub fn walk<const NAMES: usize, const ROWS: usize>(
         bindings,
         &mut heads,
         &mut goto_or_label,
-        &mut latest_decls,
-        &mut latest_labels,
+        &mut contexts,
         &mut used,
     )
 }

@@ -1,6 +1,6 @@
 // Buffers exactly long enough, one word short, and longer. Each is lent full of 77s; words that the
 // call does not write must still be 77.
-use rows::details;
+use rows::details::Branch;
 use rows::kinds::Kind;
 use std::io;
 use testing::fill;
@@ -34,9 +34,9 @@ fn two_defaults(rt: &impl Print) -> io::Result<()> {
     fill::one_row(&mut rows, 0, Row::new(Kind::Block, 0, 0, 6));
     fill::one_row(&mut rows, 1, Row::new(Kind::Switch, 0, 0, 5));
     fill::one_row(&mut rows, 2, Row::new(Kind::Block, 0, 0, 4));
-    fill::one_row(&mut rows, 3, Row::new(Kind::Case, details::DEFAULT, 0, 2));
-    fill::one_row(&mut rows, 4, Row::new(Kind::Branch, details::GOTO, 1, 1));
-    fill::one_row(&mut rows, 5, Row::new(Kind::Case, details::DEFAULT, 0, 1));
+    fill::one_row(&mut rows, 3, Row::default_case(2));
+    fill::one_row(&mut rows, 4, Row::branch(Branch::Goto, 1));
+    fill::one_row(&mut rows, 5, Row::default_case(1));
     lent(rt, "two defaults, both too short", &rows, 16, 2)
 }
 

@@ -1,6 +1,6 @@
 // 2,000 rows of labels and gotos of one name, and 500 names. For each body: the sheet's row count,
 // its first and last rows, and the sum of the bindings.
-use rows::details;
+use rows::details::Branch;
 use rows::kinds::Kind;
 use std::io;
 use testing::fill;
@@ -61,13 +61,7 @@ fn labels(words: &mut [u32], first: usize, count: usize, more: u32, on: Row) {
 // 999 times `L: goto L`, and an Empty.
 fn labels_and_gotos(rt: &impl Print, words: &mut [u32]) -> io::Result<()> {
     println!(rt; "999 L: goto L")?;
-    labels(
-        words,
-        1,
-        999,
-        0,
-        Row::new(Kind::Branch, details::GOTO, 1, 1),
-    );
+    labels(words, 1, 999, 0, Row::branch(Branch::Goto, 1));
     fill::one_row(words, 1999, Row::new(Kind::Empty, 0, 0, 1));
     block(rt, words, 2000, &[0, 1], b"L")
 }
@@ -75,7 +69,7 @@ fn labels_and_gotos(rt: &impl Print, words: &mut [u32]) -> io::Result<()> {
 // 999 times `goto L`, then 500 times `L:` with an Empty.
 fn gotos_then_labels(rt: &impl Print, words: &mut [u32]) -> io::Result<()> {
     println!(rt; "999 goto L, then 500 L:")?;
-    let goto_l = Row::new(Kind::Branch, details::GOTO, 1, 1);
+    let goto_l = Row::branch(Branch::Goto, 1);
     fill::rows(words, Run::new(1, 1, 999), goto_l, 0, 0);
     labels(words, 1000, 500, 0, Row::new(Kind::Empty, 0, 0, 1));
     block(rt, words, 2000, &[0, 1], b"L")

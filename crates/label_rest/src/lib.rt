@@ -12,8 +12,10 @@ ghost use Rattle.label_rest.specs.Left.{Left, LeftOver};
 ghost use Rattle.label_rest.specs.Rest.{Reported, AtEnd, UsedTable, UnusedTo, faults_left};
 
 use body::Body;
+use rows::RowNumber;
+use rows::details::Branch;
 use rows::kinds::Kind;
-use rows::{RowNumber, details};
+use sheet::Code;
 
 // Marks the declared label of the branch as used, or reports a goto that is still pending: 7 if its
 // name is declared, which counts as use, else 8.
@@ -42,15 +44,15 @@ fn unresolved_at(
         }
         return faults;
     }
-    if rows::detail(body.rows, row) != details::GOTO {
+    if rows::branch_at(body.rows, row) != Branch::Goto {
         return faults;
     }
     if c != 0 && label_rows[c] != 0 {
         used[c] = true;
-        sheet::put(body.rows, sheet, faults, 7, row, 0);
+        sheet::report(body.rows, sheet, faults, Code::GotoIntoBlock, row, 0);
         return faults + 1;
     }
-    sheet::put(body.rows, sheet, faults, 8, row, 0);
+    sheet::report(body.rows, sheet, faults, Code::NotDeclared, row, 0);
     faults + 1
 }
 
@@ -125,7 +127,14 @@ fn put_unused(
     let mut at = faults;
     for name in names {
         let declared = usize::from(label_rows[usize::from(*name)]);
-        sheet::put(body.rows, sheet, at, 9, RowNumber(declared - 1), 0);
+        sheet::report(
+            body.rows,
+            sheet,
+            at,
+            Code::NotUsed,
+            RowNumber(declared - 1),
+            0,
+        );
         at += 1;
     }
     at

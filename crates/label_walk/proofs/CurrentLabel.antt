@@ -15,7 +15,7 @@ use Rattle.rules.specs.Rows.{row_count, end, Child}
 use Rattle.rules.specs.Class.{Class, labeled, one_of, class}
 use Rattle.rules.specs.Scope.{is_list, list_of}
 use Rattle.rules.specs.Body.{Body, fits}
-use Rattle.rules.specs.Labels.{is, is_class, is_label}
+use Rattle.rules.specs.Labels.{is, is_class, is_label, word}
 use Rattle.rules.proofs.Test.{case-found, clash, and-true, or-true}
 use Rattle.rules.proofs.Found.{is_found, found-is}
 use Rattle.rules.proofs.Scan.{highest-found, highest-last, highest-none}
@@ -35,6 +35,12 @@ use Rattle.label_walk.proofs.ListRows.{list-before}
 label-parent : (q c : Class) → one_of (labeled ∷ []) c ≡ true → fits q c ≡ true → (one_of (labeled ∷ []) q || is_list q) ≡ true
 unfolding every lowest
 label-parent = parent-rule (one_of (labeled ∷ [])) (λ q. one_of (labeled ∷ []) q || is_list q) refl
+
+-- it stands before the row
+pub current-before : (w p b : List ℕ) (r : ℕ) → word (current_label w p b r) ≤ r
+current-before w p b r = case-found (current_label w p b r)
+    (λ s f. let (k, x) = is-current w p b r s f in rw f (omega (arith, x.before)))
+    (λ f. rw f (omega arith))
 
 module _ {w p b : List ℕ} (body : Body w p b) where
   -- of the rows around a row, its parent is the closest

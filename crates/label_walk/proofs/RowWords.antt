@@ -36,6 +36,10 @@ by-words T P e f {w} body x h =
     (of-allowed (λ k d. same (T k d) (P (class_of k d))) e (kind w x) (detail w x) (body.details x h))
     ∙ sym (own-words P f w x)
 
+-- a row of another class is no label
+pub unlabelled : (w p b : List ℕ) (x : ℕ) → is_class w labeled x ≡ false → is_label w p b x ≡ false
+unlabelled w p b x f = other-label w p b x (λ c. clash (cc (one-is (class w x) labeled c)))
+
 module _ {w p b : List ℕ} (body : Body w p b) {x : ℕ} (h : x < row_count w) where
   label-words : eqb (kind w x) 3 ≡ is_class w labeled x
   unfolding every lowest detail_allowed class_of
@@ -65,8 +69,8 @@ module _ {w p b : List ℕ} (body : Body w p b) {x : ℕ} (h : x < row_count w) 
   pub is-labeled : kind w x ≡ 3 → class w x ≡ labeled
   is-labeled i = is_one (class w x) labeled (sym label-words ∙ eq-eqb (kind w x) 3 i)
 
-  pub no_label : (kind w x ≡ 3 → ⊥) → is_label w p b x ≡ false
-  no_label n = other-label w p b x (λ c. clash (cc (label-words, one-is (class w x) labeled c, ne_eqb (kind w x) 3 n)))
+  pub no-labeled : (kind w x ≡ 3 → ⊥) → is_class w labeled x ≡ false
+  no-labeled n = sym label-words ∙ ne_eqb (kind w x) 3 n
 
   pub is-branch : kind w x ≡ 11 → is_branch (class w x) ≡ true
   is-branch i = sym branch-words ∙ eq-eqb (kind w x) 11 i
@@ -87,13 +91,12 @@ module _ {w p b : List ℕ} (body : Body w p b) {x : ℕ} (h : x < row_count w) 
   pub no-declaration : {k : ℕ} → kind w x ≡ k → (eqb k 1 || eqb k 7) ≡ false → is_class w declaration x ≡ false
   no-declaration e f = sym declaration-words ∙ rw (e, f)
 
-  -- ---- by the detail that the code has read, and by its test of the kind
-  module _ {v : ℕ} (ev : v ≡ detail w x) where
-    pub is-declaration : {k : ℕ} → v ≡ 1 → k ≡ kind w x → (eqb k 1 || eqb k 7) ≡ true → is_class w declaration x ≡ true
-    is-declaration i e q = sym declaration-words ∙ rw (sym e, q, eq-eqb (detail w x) 1 (sym ev ∙ i))
+  -- ---- by the code's test of the detail, and by that of the kind k which it has read
+  pub is-declaration : {k : ℕ} → true ≡ eqb (detail w x) 1 → k ≡ kind w x → true ≡ (eqb k 1 || eqb k 7) → is_class w declaration x ≡ true
+  is-declaration m e q = sym declaration-words ∙ rw (sym e, sym q, sym m)
 
-    pub other-detail : (v ≡ 1 → ⊥) → is_class w declaration x ≡ false
-    other-detail n = sym declaration-words ∙ rw (ne_eqb (detail w x) 1 (λ i. n (ev ∙ i)), and-false)
+  pub unmarked-declares : false ≡ eqb (detail w x) 1 → is_class w declaration x ≡ false
+  unmarked-declares m = sym declaration-words ∙ rw (sym m, and-false)
 
-    pub no-block-detail : v ≡ 1 → is_block (class w x) ≡ false
-    no-block-detail i = sym block-detail ∙ rw (eq-eqb (detail w x) 1 (sym ev ∙ i), and-false)
+  pub marked-block : true ≡ eqb (detail w x) 1 → is_block (class w x) ≡ false
+  marked-block m = sym block-detail ∙ rw (sym m, and-false)

@@ -15,6 +15,7 @@ use Rattle.rules.specs.Scope.{is_block}
 use Rattle.rules.specs.Labels.{is_label, report, word}
 use Rattle.rules.proofs.Test.{clash}
 use Rattle.rules.proofs.ClassTests.{break-branch, branch-goto, branch-fallthrough}
+use Rattle.context.specs.declared.Context.{Context}
 use Rattle.walk_state.specs.Walk.{faults_at, current_label, Walking, Walked}
 use Rattle.walk_state.proofs.WalkFaults.{faults-suc, drop-further}
 use Rattle.walk_state.proofs.WalkRows.{Idle, idle-walked, block_walked}
@@ -67,23 +68,21 @@ walked_then {w} {p} {b} {x} {y} {f} {g} {s} {bs} {s₁} k a c =
     }
 
 -- ---- the loop over the rows: what it leaves of the words at its start when it stands at row x
-pub record Turn (w p b : List ℕ) (x f : ℕ) (s₀ b₀ h₀ l₀ d₀ t₀ s bs hs l d t : List ℕ) : Type 0 where
+pub record Turn (w p b : List ℕ) (x f : ℕ) (s₀ b₀ h₀ l₀ : List ℕ) (c₀ : List (Context ℕ)) (s bs hs l : List ℕ) (c : List (Context ℕ)) : Type 0 where
   pub so_far : Walked w p b x f s₀ b₀ s bs hs l
-  pub contexts : Contexts w p b x d t
+  pub contexts : Contexts w p b x c
   pub heads-length : length hs ≡ length h₀
   pub goto-or-label-length : length l ≡ length l₀
-  pub latest-decls-length : length d ≡ length d₀
-  pub latest-labels-length : length t ≡ length t₀
+  pub contexts-length : length c ≡ length c₀
 
-pub turn-next : {w p b s₀ b₀ h₀ l₀ d₀ t₀ s bs hs l d t s' b' h' l' d' t' : List ℕ} {x f f' : ℕ} → Turn w p b x f s₀ b₀ h₀ l₀ d₀ t₀ s bs hs l d t
-    → Walked w p b (suc x) f' s bs s' b' h' l' → Contexts w p b (suc x) d' t'
-    → length h' ≡ length hs → length l' ≡ length l → length d' ≡ length d → length t' ≡ length t
-    → Turn w p b (x + 1) f' s₀ b₀ h₀ l₀ d₀ t₀ s' b' h' l' d' t'
-turn-next {x = x} a y c i j k m = rw (add-one x) (record {
+pub turn-next : {w p b s₀ b₀ h₀ l₀ s bs hs l s' b' h' l' : List ℕ} {c₀ c c' : List (Context ℕ)} {x f f' : ℕ} → Turn w p b x f s₀ b₀ h₀ l₀ c₀ s bs hs l c
+    → Walked w p b (suc x) f' s bs s' b' h' l' → Contexts w p b (suc x) c'
+    → length h' ≡ length hs → length l' ≡ length l → length c' ≡ length c
+    → Turn w p b (x + 1) f' s₀ b₀ h₀ l₀ c₀ s' b' h' l' c'
+turn-next {x = x} a y c i j k = rw (add-one x) (record {
   so_far = walked_then (omega arith) a.so_far y;
   contexts = c;
   heads-length = i ∙ a.heads-length;
   goto-or-label-length = j ∙ a.goto-or-label-length;
-  latest-decls-length = k ∙ a.latest-decls-length;
-  latest-labels-length = m ∙ a.latest-labels-length;
+  contexts-length = k ∙ a.contexts-length;
 })

@@ -10,21 +10,27 @@ use Rattle.rules.specs.Body.{Body}
 use Rattle.rules.specs.Labels.{is, is_label, word}
 use Rattle.lists.specs.Listed.{ListedBelow}
 use Rattle.walk_state.specs.Walk.{latest_in, current_label}
+use Rattle.context.specs.declared.Context.{Context}
+use Rattle.context.specs.Fields.{latest_word, label_word}
 
--- at the row of each list l: `latest l x`, 1 + its row, or 0
-pub record ListTable (w : List ℕ) (latest : ℕ → ℕ → Option ℕ) (x : ℕ) (table : List ℕ) : Type 0 where
-  pub room : row_count w ≤ length table
-  pub at_list : (l : ℕ) → l < row_count w → get_or table l 0 ≡ word (latest l x)
+-- no declaration and no label yet
+abbrev pub none_yet : Context ℕ
+none_yet = record { latest = 0; label = 0 }
+
+-- at the row of each list l one word of its context is `latest l x`, 1 + its row, or 0
+pub record ListTable (w : List ℕ) (latest : ℕ → ℕ → Option ℕ) (x : ℕ) (of : Context ℕ → ℕ) (contexts : List (Context ℕ)) : Type 0 where
+  pub room : row_count w ≤ length contexts
+  pub at_list : (l : ℕ) → l < row_count w → of (get_or contexts l none_yet) ≡ word (latest l x)
 
 module _ (w p b : List ℕ) where
   -- the latest label, not `_`, of the list l before row x
   unfoldable pub latest_label : ℕ → ℕ → Option ℕ
   latest_label l x = highest (λ t. is_label w p b t && is (list_of w t) l) x
 
-  -- both tables at row x
-  pub record Contexts (x : ℕ) (latest-decls latest-labels : List ℕ) : Type 0 where
-    pub latest_decls_are : ListTable w (latest_in w p b) x latest-decls
-    pub latest_labels_are : ListTable w latest_label x latest-labels
+  -- the contexts of the lists at row x
+  pub record Contexts (x : ℕ) (contexts : List (Context ℕ)) : Type 0 where
+    pub latest_decls_are : ListTable w (latest_in w p b) x latest_word contexts
+    pub latest_labels_are : ListTable w latest_label x label_word contexts
 
   -- a well-formed body, and the lists of the rows before x
   pub record Listing (lists : List ℕ) (x : ℕ) : Type 0 where

@@ -6,52 +6,50 @@ ghost use Rattle.rules.specs.Rows.{row_count};
 ghost use Rattle.rules.specs.Scope.{holds_items, innermost};
 ghost use Rattle.rules.specs.Labels.{word};
 ghost use Rattle.rules.specs.Body.{Sized, Detailed};
+ghost use Rattle.rows.specs.Found.{row_found};
 ghost use Rattle.lists.specs.Listed.{Open, EndsAt, InHand, ListAround, ListedBelow, Listed};
 
 use rows::RowNumber;
 
-// The list around a row, 1 + its own row or 0 for none, and where it ends.
+// The list around a row, given by its own row, and where it ends.
 #[derive(Clone, Copy, Debug, PartialEq, Eq)]
 pub struct Around {
-    pub list: usize,
+    pub list: Option<RowNumber>,
     pub end: usize,
 }
 
-// The first of `list` (1 + its row, or 0 for none) and the rows around it that hold items that
-// reaches past row r.
-fn still_open(rows: &[u32], lists: &[u16], list: usize, r: usize) -> usize
-    requires sized { Sized rows.now × Open rows.now list r × ListedBelow rows.now lists.now r }
+// The first of `list` and the rows around it that hold items that reaches past row r.
+fn still_open(rows: &[u32], lists: &[u16], list: Option<RowNumber>, r: usize) -> Option<RowNumber>
+    requires sized { Sized rows.now × Open rows.now (word (row_found list)) r × ListedBelow rows.now lists.now r }
     requires r_bound { (r < row_count rows.now) × (row_count rows.now ≤ length lists.now) }
-    ensures { result ≡ word (innermost rows.now holds_items r) }
+    ensures { row_found result ≡ innermost rows.now holds_items r }
 {
     let mut open = list;
-    while 0 < open {
-        let row = open - 1;
-        if r < row + rows::size(rows, RowNumber(row)) {
+    while let Some(row) = open {
+        if r < row.0 + rows::size(rows, row) {
             return open;
         }
-        open = usize::from(lists[row]);
+        open = rows::row_of(lists[row.0]);
     }
-    0
+    None
 }
 
-// Where the row of `list` ends (1 + its row), or where the body does if `list` is 0.
-fn end_of(rows: &[u32], list: usize) -> usize
-    requires { Sized rows.now × (list ≤ row_count rows.now) }
-    ensures { EndsAt rows.now list result }
+// Where the row of the list ends, or where the body does if there is none.
+fn end_of(rows: &[u32], list: Option<RowNumber>) -> usize
+    requires { Sized rows.now × (word (row_found list) ≤ row_count rows.now) }
+    ensures { EndsAt rows.now (word (row_found list)) result }
 {
-    if list == 0 {
-        return rows.len() / 5;
+    match list {
+        Some(row) => row.0 + rows::size(rows, row),
+        None => rows.len() / 5,
     }
-    let row = list - 1;
-    row + rows::size(rows, RowNumber(row))
 }
 
 // The list around row r, where `before` was the one in hand after the row before it.
 pub fn list_at(rows: &[u32], lists: &[u16], before: Around, r: usize) -> Around
-    requires sized { Sized rows.now × InHand rows.now before.list before.end r × ListedBelow rows.now lists.now r }
+    requires sized { Sized rows.now × InHand rows.now (word (row_found before.list)) before.end r × ListedBelow rows.now lists.now r }
     requires r_bound { (r < row_count rows.now) × (row_count rows.now ≤ length lists.now) }
-    ensures { ListAround rows.now result.list result.end r }
+    ensures { ListAround rows.now (word (row_found result.list)) result.end r }
 {
     if r < before.end {
         return before;
@@ -64,15 +62,18 @@ pub fn list_at(rows: &[u32], lists: &[u16], before: Around, r: usize) -> Around
 // The list in hand after row r: the row itself if it holds items, else the one around it.
 pub fn list_after(rows: &[u32], here: Around, r: usize) -> Around
     requires sized { Sized rows.now × Detailed rows.now × (r < row_count rows.now) × (row_count rows.now ≤ 2000) }
-    requires list_around { ListAround rows.now here.list here.end r }
-    ensures { InHand rows.now result.list result.end (r + 1) }
+    requires list_around { ListAround rows.now (word (row_found here.list)) here.end r }
+    ensures { InHand rows.now (word (row_found result.list)) result.end (r + 1) }
 {
     let row = RowNumber(r);
     if !rows::kind_at(rows, row).holds_items() {
         return here;
     }
     let end = r + rows::size(rows, row);
-    Around { list: r + 1, end }
+    Around {
+        list: Some(row),
+        end,
+    }
 }
 
 // Writes 1 + the innermost Block, Case or Comm around each row, or 0 where there is none. A list is
@@ -84,12 +85,12 @@ pub fn lists_of(rows: &[u32], lists: &mut [u16])
 {
     let count = rows.len() / 5;
     let mut around = Around {
-        list: 0,
+        list: None,
         end: count,
     };
     for r in 0..count {
         around = list_at(rows, lists, around, r);
-        lists[r] = around.list as u16;
+        lists[r] = rows::word_of(around.list);
         around = list_after(rows, around, r);
     }
 }

@@ -11,6 +11,7 @@ ghost use Rattle.walk_state.specs.Walk.{Walking, Walked};
 
 use body::Body;
 use rows::RowNumber;
+use sheet::Code;
 use tables::Tables;
 
 // How many of the pending gotos from `head` on that stand after row `list` jump over the latest
@@ -55,7 +56,14 @@ fn resolve(
         if g < latest {
             at -= 1;
             let other = rows::position(rows, RowNumber(latest - 1));
-            sheet::put(rows, sheet, at, 3, RowNumber(g - 1), other);
+            sheet::report(
+                rows,
+                sheet,
+                at,
+                Code::JumpsOverDeclaration,
+                RowNumber(g - 1),
+                other,
+            );
         }
         g = usize::from(goto_or_label[g - 1]);
     }
@@ -82,8 +90,15 @@ fn declare(
         bindings[r] = declared as u32;
         return faults;
     }
-    sheet::put(rows, sheet, faults, 1, row, 0);
-    sheet::put(rows, sheet, faults + 1, 2, RowNumber(declared - 1), 0);
+    sheet::report(rows, sheet, faults, Code::AlreadyDeclared, row, 0);
+    sheet::report(
+        rows,
+        sheet,
+        faults + 1,
+        Code::OtherDeclaration,
+        RowNumber(declared - 1),
+        0,
+    );
     faults + 2
 }
 

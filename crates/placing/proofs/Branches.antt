@@ -3,53 +3,45 @@
 use mathlib.Core.Path.{◌≡◌, refl, sym, ◌∙◌}
 use mathlib.Core.Bool.{true, false, not, and-false}
 use mathlib.Core.List.{List, [], ◌∷◌}
-use Prim.Native.Nat.{ℕ}
-use native.Mathlib.Omega.{arith}
+use Prim.Native.Nat.{ℕ, ◌<◌}
 use lib.Dec.{eqb}
 use borrow.Author.Tests.{ne_eqb}
-use Rattle.rules.specs.Rows.{kind, detail, name}
+use Rattle.rules.specs.Rows.{row_count, kind, detail, name}
 use Rattle.rules.specs.Class.{Class, break, continue, goto, fallthrough, one_of, is_branch, is_breakable, is_loop, is_statement, detail_allowed, class_of, class}
+use Rattle.rules.specs.Body.{Formed}
 use Rattle.rules.specs.Scope.{innermost}
 use Rattle.rules.specs.Labels.{is_some}
 use Rattle.rules.specs.Placing.{ends_case, well_placed, badly_placed}
 use Rattle.rules.proofs.Test.{clash}
-use Rattle.rules.proofs.Details.{allowed-small}
-use Rattle.rules.proofs.ByKind.{NoneOf, kind-jump}
+use Rattle.rules.proofs.ByKind.{kind-jump}
 use Rattle.rules.proofs.ClassTests.{one-not}
 use Rattle.rules.proofs.Placed.{well-break, well-continue, well-fallthrough, well-other}
 use Rattle.rules.proofs.Lists.{own-branch, branch-class, by-words}
 
 -- ---- a Branch, by its detail
-module _ (w : List ℕ) (r d : ℕ) (a : detail_allowed (kind w r) (detail w r) ≡ true) (k : kind w r ≡ 11) (i : d ≡ detail w r) where
-  by-detail : (n : ℕ) → d ≡ n → class w r ≡ class_of 11 n
-  by-detail n = branch-class w r d n a k i
+module _ (w : List ℕ) (r : ℕ) (f : Formed w) (h : (r < row_count w) × (kind w r ≡ 11) × (name w r ≡ 0)) where
+  by-detail : (n : ℕ) → detail w r ≡ n → class w r ≡ class_of 11 n
+  by-detail n = branch-class w r (detail w r) n (f.2.details r h.0) h.1 refl
 
-  pub place-break : d ≡ 0 → is_some (innermost w is_breakable r) ≡ well_placed w r
+  pub place-break : detail w r ≡ 0 → is_some (innermost w is_breakable r) ≡ well_placed w r
   unfolding class_of
   place-break e = sym (well-break w r (by-detail 0 e))
 
-  pub place-continue : d ≡ 1 → is_some (innermost w is_loop r) ≡ well_placed w r
+  pub place-continue : detail w r ≡ 1 → is_some (innermost w is_loop r) ≡ well_placed w r
   unfolding class_of
   place-continue e = sym (well-continue w r (by-detail 1 e))
 
-  pub place-fallthrough : d ≡ 3 → ends_case w r ≡ well_placed w r
+  pub place-fallthrough : detail w r ≡ 3 → ends_case w r ≡ well_placed w r
   unfolding class_of
   place-fallthrough e = sym (well-fallthrough w r (by-detail 3 e))
 
-  pub statement-fallthrough : d ≡ 3 → is_statement (class w r) ≡ true
+  pub statement-fallthrough : detail w r ≡ 3 → is_statement (class w r) ≡ true
   unfolding class_of
   statement-fallthrough e = let b : class w r ≡ fallthrough = by-detail 3 e in rw b
 
-  pub place-goto : NoneOf (3 ∷ 1 ∷ 0 ∷ []) d → true ≡ well_placed w r
+  pub place-goto : detail w r ≡ 2 → true ≡ well_placed w r
   unfolding class_of
-  place-goto n =
-      let s = (allowed-small (kind w r) (detail w r) a).1 in
-      let x = n.1 in
-      let y = n.0.1 in
-      let z = n.0.0.1 in
-      let e : d ≡ 2 = omega arith in
-      let b : class w r ≡ goto = by-detail 2 e in
-      sym (well-other w r (rw b) (rw b) (rw b))
+  place-goto e = let b : class w r ≡ goto = by-detail 2 e in sym (well-other w r (rw b) (rw b) (rw b))
 
 -- ---- every row
 other-class : (c d : Class) → is_branch c ≡ false → is_branch d ≡ true → one_of (d ∷ []) c ≡ false

@@ -40,13 +40,13 @@ pub all_more : (w : List ℕ) (c r : ℕ) → AllEmpty w c r → class w r ≡ e
 all_more w c r a e k h l = elim (ℕ_discrete k r) [ yes y ↦ rw y e | no n ↦ a k h (omega arith) ]
 
 -- ---- the words, as rows
-pub row-none : (o : Option ℕ) (v : ℕ) → v ≡ word o → v ≡ 0 → o ≡ none
-row-none (some k) v e z = absurd (omega arith)
-row-none none v e z = refl
+pub row-none : (o : Option ℕ) → 0 ≡ word o → o ≡ none
+row-none (some k) e = absurd (omega arith)
+row-none none e = refl
 
-pub row-some : (o : Option ℕ) (v : ℕ) → v ≡ word o → (v ≡ 0 → ⊥) → o ≡ some (v - 1)
-row-some (some k) v e n = let i : k ≡ v - 1 = omega arith in ap some i
-row-some none v e n = absurd (n e)
+pub row-some : (o : Option ℕ) (c : ℕ) → suc c ≡ word o → o ≡ some c
+row-some (some k) c e = let i : k ≡ c = omega arith in ap some i
+row-some none c e = absurd (omega arith)
 
 module _ {w l : List ℕ} (f : FormedLists w l) (r : ℕ) (h : r < row_count w) where
   -- a statement's word is its list
@@ -69,11 +69,11 @@ module _ {w l : List ℕ} (f : FormedLists w l) (r : ℕ) (h : r < row_count w) 
       e ∙ f.listed r h ∙ ap word (sym (case-home body r h some-row t))
 
   -- and right before that Block is its switch
-  pub switch-before : (u : ℕ) → is_case (class w r) ≡ true → innermost w (one_of (case_block ∷ [])) r ≡ some (u - 1)
-      → (2 ≤ u) × (innermost w is_switch r ≡ some (u - 2))
-  switch-before u t e =
-      let (q, before, found) = case-switch f.formed.2 r (u - 1) h t e in
-      let same : q ≡ u - 2 = omega arith in
+  pub switch-before : (s : ℕ) → is_case (class w r) ≡ true → innermost w (one_of (case_block ∷ [])) r ≡ some s
+      → (1 ≤ s) × (innermost w is_switch r ≡ some (s - 1))
+  switch-before s t e =
+      let (q, before, found) = case-switch f.formed.2 r s h t e in
+      let same : q ≡ s - 1 = omega arith in
       (omega arith, found ∙ ap some same)
 
 -- ---- what ends a Case

@@ -1,20 +1,46 @@
 // Which rows count for placing: a Branch, and what a break or a continue needs around it. The search
 // passes over the others.
-ghost use Rattle.std.specs.Prelude.{◌≡◌, true, ℕ, ◌≤◌};
+ghost use Rattle.std.specs.Prelude.{◌≡◌, ◌≤◌, ◌<◌};
 ghost use Rattle.rules.specs.Rows.{row_count};
-ghost use Rattle.rules.specs.Class.{detail_allowed, class_of};
+ghost use Rattle.rules.specs.Class.{class};
 ghost use Rattle.rules.specs.Body.{Detailed};
-ghost use Rattle.rows.specs.Kinds.{number};
 ghost use Rattle.placing.specs.Counted.{counted, PassedOver};
 
 use rows::RowNumber;
-use rows::kinds::Kind;
 
-// Whether a row of this kind counts. What a continue needs a break needs too.
-fn counts(kind: Kind) -> bool
-    ensures { (d : ℕ) → detail_allowed (number kind) d ≡ true → result ≡ counted (class_of (number kind) d) }
+// Whether a row of each kind counts; what a continue needs a break needs too. The search passes over
+// most rows: by a match on the kinds, which is compiled to two jumps a row, it takes twice as long.
+const COUNTED: [bool; 21] = [
+    false, // Bad
+    false, // Decl
+    false, // Empty
+    false, // Labeled
+    false, // Expr
+    false, // Send
+    false, // IncDec
+    false, // Assign
+    false, // Go
+    false, // Defer
+    false, // Return
+    true, // Branch
+    false, // Block
+    false, // If
+    false, // Case
+    true, // Switch
+    true, // TypeSwitch
+    false, // Comm
+    true, // Select
+    true, // For
+    true, // Range
+];
+
+// Whether the row counts.
+fn counts(rows: &[u32], row: RowNumber) -> bool
+    requires { (row.0 < row_count rows.now) × Detailed rows.now }
+    ensures { result ≡ counted (class rows.now row.0) }
 {
-    kind == Kind::Branch || kind.is_breakable()
+    let kind = rows::kind(rows, row) as usize;
+    COUNTED[kind]
 }
 
 // The first row from `from` on, before `end`, that counts.
@@ -23,7 +49,7 @@ pub fn next_that_counts(rows: &[u32], from: usize, end: usize) -> usize
     ensures { PassedOver rows.now from result end }
 {
     for r in from..end {
-        if counts(rows::kind_at(rows, RowNumber(r))) {
+        if counts(rows, RowNumber(r)) {
             return r;
         }
     }

@@ -18,8 +18,9 @@ ghost use Rattle.placing.specs.Searched.{Searched};
 
 use crate::counts::next_that_counts;
 use refusals::Refusal;
+use rows::RowNumber;
+use rows::details::Branch;
 use rows::kinds::Kind;
-use rows::{RowNumber, details};
 
 // The search came to an unlabelled fallthrough, for which it needs each row's list.
 #[derive(Clone, Copy, Debug, PartialEq, Eq)]
@@ -46,24 +47,21 @@ fn ends_case(rows: &[u32], lists: &[u16], row: RowNumber) -> bool
     ensures { result ≡ ends_case rows.now row.0 }
 {
     let r = row.0;
-    let list = usize::from(lists[r]);
-    if list == 0 {
+    let Some(case) = rows::row_of(lists[r]) else {
+        return false;
+    };
+    if rows::kind_at(rows, case) != Kind::Case {
         return false;
     }
-    let case = list - 1;
-    if rows::kind_at(rows, RowNumber(case)) != Kind::Case {
+    let case_end = case.0 + rows::size(rows, case);
+    let Some(block) = rows::row_of(lists[case.0]) else {
         return false;
-    }
-    let case_end = case + rows::size(rows, RowNumber(case));
-    let block = usize::from(lists[case]);
-    if block == 0 {
-        return false;
-    }
-    let block_end = block - 1 + rows::size(rows, RowNumber(block - 1));
+    };
+    let block_end = block.0 + rows::size(rows, block);
     if block_end <= case_end {
         return false;
     }
-    if rows::kind_at(rows, RowNumber(block - 2)) != Kind::Switch {
+    if rows::kind_at(rows, RowNumber(block.0 - 1)) != Kind::Switch {
         return false;
     }
     only_empty(rows, r + 1, case_end)
@@ -83,11 +81,11 @@ fn well_placed(
     requires reach { Reach rows.now is_breakable row.0 break_end × Reach rows.now is_loop row.0 loop_end }
     ensures { result ≡ well_placed rows.now row.0 }
 {
-    match rows::detail(rows, row) {
-        details::BREAK => row.0 < break_end,
-        details::CONTINUE => row.0 < loop_end,
-        details::FALLTHROUGH => ends_case(rows, lists, row),
-        _ => true,
+    match rows::branch_at(rows, row) {
+        Branch::Break => row.0 < break_end,
+        Branch::Continue => row.0 < loop_end,
+        Branch::Goto => true,
+        Branch::Fallthrough => ends_case(rows, lists, row),
     }
 }
 
@@ -122,7 +120,7 @@ fn is_fallthrough(rows: &[u32], row: RowNumber) -> bool
     ensures { result ≡ false → Falls rows.now row.0 → ⊥ }
 {
     rows::kind_at(rows, row) == Kind::Branch
-        && rows::detail(rows, row) == details::FALLTHROUGH
+        && rows::branch_at(rows, row) == Branch::Fallthrough
         && rows::name_word(rows, row) == 0
 }
 

@@ -4,7 +4,7 @@
 use mathlib.Core.Path.{◌≡◌, refl, sym, ◌∙◌, ap}
 use mathlib.Core.Bool.{Bool, true, false, ◌&&◌, ◌||◌, not}
 use mathlib.Core.List.{List, [], ◌∷◌, map}
-use mathlib.Core.Logic.{inl, inr}
+use mathlib.Core.Logic.{◌⊎◌, inl, inr}
 use Prim.Native.Nat.{ℕ, suc, ◌+◌, ◌*◌, ◌≤◌, ◌<◌}
 use native.Mathlib.Omega.{arith}
 use native.Mathlib.Numerals.{add-one}
@@ -27,6 +27,10 @@ use Rattle.rows.specs.Kinds.{number}
 use Rattle.rows.specs.declared.kinds.Kind.{Kind}
 use Rattle.rows.specs.declared.kinds.Kind.TheVariants.{Labeled, Expr, Return, Branch, Block, If, Switch, TypeSwitch, Select, For}
 use Rattle.rows.proofs.Numbers.{OneOf, NoKind, is-kind, not-kind, not-among}
+use Rattle.rows.specs.Branches.{number as branch_number}
+use Rattle.rows.specs.declared.details.Branch as jump
+use Rattle.rows.specs.declared.details.Branch.TheVariants.{Break, Continue, Goto, Fallthrough}
+use Rattle.rows.proofs.Marks.{marked, unmarked}
 use Rattle.breaks.specs.Leaves.{label_number, Closed, any_leaves}
 use Rattle.returns.specs.Search.{is_terminating_body, is_terminating_list}
 use Rattle.breaks.proofs.Ranges.{label-on, no-label-on, closed-below, label_after}
@@ -76,17 +80,29 @@ module _ {w p b : List ℕ} {t r label n : ℕ} (a : Known w p b t r label n) wh
       let x = and-true (same u (is_always (class w r))) (is_never (class w r) || is_always (class w r)) s in
       same-eq u (is_always (class w r)) x.0 ∙ sym (row_settled a.body r a.row x.1)
 
-  pub expr-answer : 4 ≡ kind w r → {d : ℕ} → d ≡ detail w r → eqb d 1 ≡ is_terminating_body w p b r
+  pub expr-answer : 4 ≡ kind w r → {v : Bool} → v ≡ eqb (detail w r) 1 → v ≡ is_terminating_body w p b r
   unfolding every lowest detail_allowed class_of
-  expr-answer e q = rw q (answers (λ k d. eqb k 4) (λ k d. eqb d 1) refl (rw (sym e)) (rw (sym e)))
+  expr-answer e q = q ∙ answers (λ k d. eqb k 4) (λ k d. eqb d 1) refl (rw (sym e)) (rw (sym e))
 
   pub return-answer : 10 ≡ kind w r → true ≡ is_terminating_body w p b r
   unfolding every lowest detail_allowed class_of
   return-answer e = answers (λ k d. eqb k 10) (λ k d. true) refl (rw (sym e)) (rw (sym e))
 
-  pub branch-answer : 11 ≡ kind w r → {d : ℕ} → d ≡ detail w r → leb 2 d ≡ is_terminating_body w p b r
+  branch-answer : 11 ≡ kind w r → (k : jump.Branch) → branch_number k ≡ detail w r → leb 2 (branch_number k) ≡ is_terminating_body w p b r
   unfolding every lowest detail_allowed class_of
-  branch-answer e q = rw q (answers (λ k d. eqb k 11) (λ k d. leb 2 d) refl (rw (sym e)) (rw (sym e)))
+  branch-answer e k q = rw q (answers (λ k d. eqb k 11) (λ k d. leb 2 d) refl (rw (sym e)) (rw (sym e)))
+
+  -- a goto and a fallthrough are terminating, a break and a continue aren't
+  pub jump-answer : 11 ≡ kind w r → (k : jump.Branch) → branch_number k ≡ detail w r → (k ≡ Goto) ⊎ (k ≡ Fallthrough) → true ≡ is_terminating_body w p b r
+  jump-answer e k q (inl i) = rw i at (branch-answer e k q)
+  jump-answer e k q (inr i) = rw i at (branch-answer e k q)
+
+  pub leave-answer : 11 ≡ kind w r → (k : jump.Branch) → branch_number k ≡ detail w r → (k ≡ Goto → ⊥) → (k ≡ Fallthrough → ⊥)
+      → false ≡ is_terminating_body w p b r
+  leave-answer e Break q f g = branch-answer e Break q
+  leave-answer e Continue q f g = branch-answer e Continue q
+  leave-answer e Goto q f g = absurd (f refl)
+  leave-answer e Fallthrough q f g = absurd (g refl)
 
   pub other-answer : (k : Kind) → number k ≡ kind w r → NoKind arms k → false ≡ is_terminating_body w p b r
   unfolding every lowest detail_allowed class_of base
@@ -123,14 +139,14 @@ module _ {w p b : List ℕ} {t r label n : ℕ} (a : Known w p b t r label n) wh
   list-answer e q = rw (a.size_is, add-one r) at q ∙ sym (row_list a.body r a.row (holds-list e))
 
   -- ---- If
-  module _ (e : 13 ≡ kind w r) {d : ℕ} (q : d ≡ detail w r) where
-    pub if-answer : d ≡ 0 → false ≡ is_terminating_body w p b r
+  module _ (e : 13 ≡ kind w r) {v : Bool} (q : v ≡ eqb (detail w r) 1) where
+    pub if-answer : v ≡ false → false ≡ is_terminating_body w p b r
     unfolding every lowest detail_allowed class_of
-    if-answer z = answers (λ k d. eqb k 13 && eqb d 0) (λ k d. false) refl (rw (sym e)) (rw (sym e, ← q, z))
+    if-answer x = answers (λ k d. eqb k 13 && not (eqb d 1)) (λ k d. false) refl (rw (sym e)) (rw (sym e, sym q ∙ x))
 
-    module _ (x : d ≡ 0 → ⊥) where
+    module _ (x : v ≡ true) where
       has-else : class w r ≡ if_else
-      has-else = else-kind w r allowed (sym e) (λ z. x (q ∙ z))
+      has-else = else-kind w r allowed (sym e) (λ z. omega (arith, z, marked q x))
 
       pub then-call : RowCall w t (r + 1) 0
       then-call =
@@ -183,13 +199,13 @@ module _ {w p b : List ℕ} {t r label n : ℕ} (a : Known w p b t r label n) wh
   select-call e = same_row (select-kind w r allowed (sym e))
 
   -- ---- For
-  module _ (e : 19 ≡ kind w r) {d : ℕ} (q : d ≡ detail w r) where
-    pub for-answer : d ≡ 1 → false ≡ is_terminating_body w p b r
+  module _ (e : 19 ≡ kind w r) {v : Bool} (q : v ≡ eqb (detail w r) 1) where
+    pub for-answer : v ≡ true → false ≡ is_terminating_body w p b r
     unfolding every lowest detail_allowed class_of
-    for-answer z = answers (λ k d. eqb k 19 && eqb d 1) (λ k d. false) refl (rw (sym e)) (rw (sym e, ← q, z))
+    for-answer x = answers (λ k d. eqb k 19 && eqb d 1) (λ k d. false) refl (rw (sym e)) (rw (sym e, sym q ∙ x))
 
-    pub loop-answer : (d ≡ 1 → ⊥) → {u : Bool} → u ≡ any_leaves w p b (r + 1) (r + n) label true → not u ≡ is_terminating_body w p b r
+    pub loop-answer : v ≡ false → {u : Bool} → u ≡ any_leaves w p b (r + 1) (r + n) label true → not u ≡ is_terminating_body w p b r
     loop-answer x f =
-        let c = for-kind w r allowed (sym e) (λ z. x (q ∙ z)) in
+        let c = for-kind w r allowed (sym e) (unmarked q x) in
         let g = has-break-below a.body r a.row (rw c) in
         ap not (rw (a.size_is, add-one r, a.labelled) at f ∙ sym g) ∙ sym (row-for a.body r a.row c)

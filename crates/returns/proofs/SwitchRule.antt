@@ -6,7 +6,7 @@ use mathlib.Core.List.{List}
 use Prim.Native.Nat.{ℕ, suc, ◌+◌, ◌-◌, ◌*◌, ◌≤◌, ◌<◌}
 use native.Mathlib.Omega.{arith}
 use native.Mathlib.Numerals.{add-one}
-use borrow.Author.Tests.{ne_eqb}
+use lib.Dec.{eqb}
 use Rattle.rules.specs.Rows.{row_count, detail, size, Item, here}
 use Rattle.rules.specs.Class.{select, is_default, class}
 use Rattle.rules.specs.Labels.{is_class}
@@ -57,13 +57,13 @@ module _ {w p b : List ℕ} {t r label n : ℕ} {found : Bool} (o : Opened w p b
       clause : is_clause (class w c) ≡ true
       clause = clause-of o.body r o.row o.opening c (rw (o.size_is, two) at (a.item l))
 
-      -- the default found so far, after the clause's detail k
-      module _ {k : ℕ} {d : Bool} (e : k ≡ detail w c) where
-        pub default-here : k ≡ 1 → d ≡ true → d ≡ so_far || is_default (class w c)
+      -- the default found so far, after the clause, of which v says whether it is one
+      module _ {v d : Bool} (e : v ≡ eqb (detail w c) 1) where
+        pub default-here : v ≡ true → d ≡ true → d ≡ so_far || is_default (class w c)
         default-here f g = g ∙ rw (← clause-default o.body c clause-row clause, ← e, f, or-true)
 
-        pub default-before : (k ≡ 1 → ⊥) → d ≡ so_far → d ≡ so_far || is_default (class w c)
-        default-before f g = g ∙ sym (rw (← clause-default o.body c clause-row clause, ← e, ne_eqb k 1 f, or-false))
+        pub default-before : v ≡ false → d ≡ so_far → d ≡ so_far || is_default (class w c)
+        default-before f g = g ∙ sym (rw (← clause-default o.body c clause-row clause, ← e, f, or-false))
 
       -- m is the clause's size as the code read it, and u and v what the calls answered
       module _ {m : ℕ} (z : m ≡ size w c) where

@@ -15,8 +15,9 @@ ghost use Rattle.returns.specs.Search.{OneRowEmpties, UnlessEmpty, Lasts, is_ter
 use body::Body;
 use names::NameNumber;
 use refusals::Refusal;
+use rows::RowNumber;
+use rows::details::Branch;
 use rows::kinds::Kind;
-use rows::{RowNumber, details};
 
 // Whether the statement is terminating. If it is labelled, `label` is the name of the label directly
 // on it.
@@ -32,12 +33,17 @@ pub fn is_terminating(body: Body<'_>, row: RowNumber, label: NameNumber) -> bool
     let end = row.0 + rows::size(rows, row);
     match rows::kind_at(rows, row) {
         Kind::Labeled => is_terminating(body, first, rows::name(rows, row)),
-        Kind::Expr => rows::detail(rows, row) == details::PANIC,
+        // a panic
+        Kind::Expr => rows::is_marked(rows, row),
         Kind::Return => true,
-        Kind::Branch => details::GOTO <= rows::detail(rows, row),
+        Kind::Branch => matches!(
+            rows::branch_at(rows, row),
+            Branch::Goto | Branch::Fallthrough
+        ),
         Kind::Block => is_terminating_list(body, first, end),
         Kind::If => {
-            if rows::detail(rows, row) == details::WITHOUT_ELSE {
+            let with_else = rows::is_marked(rows, row);
+            if !with_else {
                 return false;
             }
             if !is_terminating(body, first, NameNumber(0)) {
@@ -49,7 +55,8 @@ pub fn is_terminating(body: Body<'_>, row: RowNumber, label: NameNumber) -> bool
         Kind::Switch | Kind::TypeSwitch => is_terminating_switch(body, row, label, false),
         Kind::Select => is_terminating_switch(body, row, label, true),
         Kind::For => {
-            if rows::detail(rows, row) == details::WITH_CONDITION {
+            let with_condition = rows::is_marked(rows, row);
+            if with_condition {
                 return false;
             }
             !breaks::has_break_list(body, first, end, label, true)
@@ -125,7 +132,8 @@ fn is_terminating_switch(body: Body<'_>, row: RowNumber, label: NameNumber, foun
         let clause = RowNumber(c);
         let first = RowNumber(c + 1);
         let next = c + rows::size(rows, clause);
-        if rows::detail(rows, clause) == details::DEFAULT {
+        let default = rows::is_marked(rows, clause);
+        if default {
             has_default = true;
         }
         if !is_terminating_list(body, first, next) {

@@ -11,8 +11,9 @@ ghost use Rattle.rules.specs.Names.{count_of_pairs};
 ghost use Rattle.rules.specs.Refusals.{name_allowed, bad_row};
 ghost use Rattle.rows.specs.Kinds.{number};
 
+use rows::RowNumber;
+use rows::details::{Branch, detail_allowed};
 use rows::kinds::Kind;
-use rows::{RowNumber, details};
 
 // Whether there is a name of this number.
 fn is_name(pair_count: usize, name: usize) -> bool
@@ -30,7 +31,7 @@ fn name_allowed(kind: Kind, detail: u32, pair_count: usize, name: usize) -> bool
     match kind {
         Kind::Labeled => is_name(pair_count, name),
         Kind::Branch => {
-            if detail == details::GOTO {
+            if detail == u32::from(Branch::Goto) {
                 is_name(pair_count, name)
             } else {
                 name <= pair_count
@@ -46,7 +47,7 @@ pub fn row_allowed(rows: &[u32], pair_count: usize, row: RowNumber) -> bool
     ensures { (p : List ℕ) → count_of_pairs p ≡ pair_count → result ≡ not (bad_row rows.now p row.0) }
 {
     let detail = rows::detail(rows, row);
-    if !details::detail_allowed(rows::kind(rows, row), detail) {
+    if !detail_allowed(rows::kind(rows, row), detail) {
         return false;
     }
     if rows::position(rows, row) == 0 {

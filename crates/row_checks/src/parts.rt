@@ -7,8 +7,8 @@ ghost use Rattle.rows.specs.Kinds.{number};
 ghost use Rattle.shape.specs.Held.{held};
 ghost use Rattle.row_checks.specs.Parts.{is_list, Items, default_count, MayBe, OneChild, TwoParts, Parts};
 
+use rows::RowNumber;
 use rows::kinds::Kind;
-use rows::{RowNumber, details};
 use shape::Holding;
 
 // Whether the row may be child number i of a row that holds this.
@@ -71,7 +71,9 @@ pub fn parts_fit(rows: &[u32], row: RowNumber, holding: Holding) -> bool
     ensures { result ≡ true → Parts rows.now (held holding) row.0 }
 {
     match holding {
-        Holding::Statement | Holding::Body => child_fits(rows, row, holding),
+        // two arms: as one the child's kind is told by a test more
+        Holding::Statement => child_fits(rows, row, Holding::Statement),
+        Holding::Body => child_fits(rows, row, Holding::Body),
         Holding::Branches => branches_fit(rows, row),
         _ => rows::size(rows, row) == 1,
     }
@@ -112,5 +114,5 @@ pub fn count_default(rows: &[u32], clause: RowNumber) -> usize
     requires { clause.0 < row_count rows.now }
     ensures { result ≡ default_count rows.now clause.0 }
 {
-    usize::from(rows::detail(rows, clause) == details::DEFAULT)
+    usize::from(rows::is_marked(rows, clause))
 }

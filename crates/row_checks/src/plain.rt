@@ -7,8 +7,9 @@ ghost use Rattle.rows.specs.Kinds.{number};
 ghost use Rattle.row_checks.specs.Plain.{Nameless, PlainItem, PlainItems};
 
 use crate::row_allowed;
+use rows::RowNumber;
+use rows::details::detail_allowed;
 use rows::kinds::Kind;
-use rows::{RowNumber, details};
 
 // Whether nothing stands below a row of this kind, and it has no name.
 fn is_nameless(kind: Kind) -> bool
@@ -35,7 +36,7 @@ fn nameless_allowed(rows: &[u32], row: RowNumber) -> bool
     requires { row.0 < row_count rows.now }
     ensures { result ≡ true → Nameless rows.now row.0 }
 {
-    if !details::detail_allowed(rows::kind(rows, row), rows::detail(rows, row)) {
+    if !detail_allowed(rows::kind(rows, row), rows::detail(rows, row)) {
         return false;
     }
     if rows::position(rows, row) == 0 {

@@ -1,1 +1,4 @@
+pub mod Coded
 pub mod Numbers
+pub mod Branches
+pub mod Marks

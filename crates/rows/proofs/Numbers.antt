@@ -10,25 +10,22 @@
 --   `if k != Kind::Block`                   ne-true _ Block a c.if-ne.ensures : m ≡ 12 → ⊥; where it fails, ne-false _ Block a c.if-ne.ensures : m ≡ 12
 --   the value of `k == Kind::Block`         c.eq.ensures ∙ eq-test _ Block a : c.eq.result ≡ eqb m 12
 -- Assumes nothing.
-use mathlib.Core.Path.{◌≡◌, refl, sym, ◌∙◌, ap}
+use mathlib.Core.Path.{◌≡◌, refl, ◌∙◌, ap}
 use mathlib.Core.Bool.{true, false, not, ◌||◌, or-true}
 use mathlib.Core.List.{List, [], ◌∷◌, map}
 use mathlib.Core.Logic.{◌⊎◌, inl, inr}
 use Prim.Native.Nat.{ℕ}
 use lib.Dec.{eqb}
-use denote.Enum.Bare.{sameb, same_true, differs_true, differs_false}
+use denote.Enum.Bare.{sameb}
 use denote.Enum.Declared.{tag_of}
-use borrow.Author.Tests.{eqb-true, eq-eqb}
+use borrow.Author.Tests.{eq-eqb}
 use Rattle.rules.proofs.ByKind.{among, NoneOf, none-among}
-use Rattle.rules.proofs.Test.{clash}
 use Rattle.rows.specs.Kinds.{number}
 use Rattle.rows.specs.contracts.kinds.Kind.{the_type}
 use Rattle.rows.specs.declared.kinds.Kind.{Kind}
 use Rattle.rows.specs.declared.kinds.Kind.TheVariants.{Bad, Decl, Empty, Labeled, Expr, Send, IncDec, Assign, Go, Defer, Return, Branch, Block, If, Case, Switch, TypeSwitch, Comm, Select, For, Range}
-
--- ---- an arm of one kind, and one that leaves it out
-pub is-kind : {k n : Kind} {m : ℕ} → number k ≡ m → k ≡ n → m ≡ number n
-is-kind a e = sym a ∙ ap number e
+use Rattle.rows.proofs.Coded as coded
+use Rattle.rows.proofs.Coded.{is-number, not-number}
 
 -- the tag by which a comparison tells the kinds apart is the number
 tag : (k : Kind) → tag_of the_type k ≡ number k
@@ -56,27 +53,27 @@ tag k = elim k as (λ j. tag_of the_type j ≡ number j) [
   | Range ↦ refl
 ]
 
-pub eq-test : (k n : Kind) {m : ℕ} → number k ≡ m → sameb the_type k n ≡ eqb m (number n)
-eq-test k n a = rw (tag k, tag n, a)
-
-from-number : (k n : Kind) {m : ℕ} → number k ≡ m → m ≡ number n → k ≡ n
-from-number k n {m} a e = same_true the_type tt k n (eq-test k n a ∙ eq-eqb m (number n) e)
+-- ---- one kind, in an arm or a comparison
+pub is-kind : {k n : Kind} {m : ℕ} → number k ≡ m → k ≡ n → m ≡ number n
+is-kind = is-number the_type tt number tag
 
 pub not-kind : {k n : Kind} {m : ℕ} → number k ≡ m → (k ≡ n → ⊥) → m ≡ number n → ⊥
-not-kind {k} {n} a f e = f (from-number k n a e)
+not-kind = not-number the_type tt number tag
 
--- ---- a comparison
+pub eq-test : (k n : Kind) {m : ℕ} → number k ≡ m → sameb the_type k n ≡ eqb m (number n)
+eq-test = coded.eq-test the_type tt number tag
+
 pub eq-true : (k n : Kind) {m : ℕ} → number k ≡ m → true ≡ sameb the_type k n → m ≡ number n
-eq-true k n {m} a t = eqb-true m (number n) (sym (t ∙ eq-test k n a))
+eq-true = coded.eq-true the_type tt number tag
 
 pub eq-false : (k n : Kind) {m : ℕ} → number k ≡ m → false ≡ sameb the_type k n → m ≡ number n → ⊥
-eq-false k n {m} a f e = clash (cc (f ∙ eq-test k n a, eq-eqb m (number n) e))
+eq-false = coded.eq-false the_type tt number tag
 
 pub ne-true : (k n : Kind) {m : ℕ} → number k ≡ m → true ≡ not (sameb the_type k n) → m ≡ number n → ⊥
-ne-true k n a t e = differs_true the_type k n (sym t) (from-number k n a e)
+ne-true = coded.ne-true the_type tt number tag
 
 pub ne-false : (k n : Kind) {m : ℕ} → number k ≡ m → false ≡ not (sameb the_type k n) → m ≡ number n
-ne-false k n a f = is-kind a (differs_false the_type tt k n (sym f))
+ne-false = coded.ne-false the_type tt number tag
 
 -- ---- an arm of several kinds, and one that leaves them out
 abbrev pub OneOf : List Kind → Kind → Type 0

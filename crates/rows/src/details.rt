@@ -1,27 +1,29 @@
 // The details, and which of them the 21 kinds allow: one fixed table.
 ghost use Rattle.std.specs.Prelude.{◌≡◌};
 ghost use Rattle.rules.specs.Class.{detail_allowed};
+ghost use Rattle.rows.specs.Branches.{number};
 
-// The details of a Branch.
-pub const BREAK: u32 = 0;
+// What a Branch does, which its detail says.
+#[derive(Clone, Copy, Debug, PartialEq, Eq)]
+pub enum Branch {
+    Break,
+    Continue,
+    Goto,
+    Fallthrough,
+}
 
-pub const CONTINUE: u32 = 1;
+impl From<Branch> for u32 {
+    ghost from_gives = { λ branch word. word ≡ number branch };
 
-pub const GOTO: u32 = 2;
-
-pub const FALLTHROUGH: u32 = 3;
-
-// The details of other kinds: a panic, an If without and with else, a default Case or Comm, a For
-// with a condition.
-pub const PANIC: u32 = 1;
-
-pub const WITHOUT_ELSE: u32 = 0;
-
-pub const WITH_ELSE: u32 = 1;
-
-pub const DEFAULT: u32 = 1;
-
-pub const WITH_CONDITION: u32 = 1;
+    fn from(branch: Branch) -> u32 {
+        match branch {
+            Branch::Break => 0,
+            Branch::Continue => 1,
+            Branch::Goto => 2,
+            Branch::Fallthrough => 3,
+        }
+    }
+}
 
 // One byte for each kind: bit d is set exactly when detail d is allowed.
 const DETAILS: [u8; 21] = [

@@ -1,5 +1,5 @@
 // The 21 kinds, and which of them a break and a continue need.
-ghost use Rattle.std.specs.Prelude.{◌≡◌, true, ℕ};
+ghost use Rattle.std.specs.Prelude.{◌≡◌, true, ℕ, ◌<◌};
 ghost use Rattle.rules.specs.Class.{is_loop, is_breakable, is_statement, detail_allowed, class_of};
 ghost use Rattle.rules.specs.Scope.{holds_items};
 ghost use Rattle.rows.specs.Kinds.{number, Numbers};
@@ -40,30 +40,10 @@ impl TryFrom<u32> for Kind {
     ghost try_from_gives = { Numbers };
 
     fn try_from(word: u32) -> Result<Self, NoKind> {
-        match word {
-            0 => Ok(Kind::Bad),
-            1 => Ok(Kind::Decl),
-            2 => Ok(Kind::Empty),
-            3 => Ok(Kind::Labeled),
-            4 => Ok(Kind::Expr),
-            5 => Ok(Kind::Send),
-            6 => Ok(Kind::IncDec),
-            7 => Ok(Kind::Assign),
-            8 => Ok(Kind::Go),
-            9 => Ok(Kind::Defer),
-            10 => Ok(Kind::Return),
-            11 => Ok(Kind::Branch),
-            12 => Ok(Kind::Block),
-            13 => Ok(Kind::If),
-            14 => Ok(Kind::Case),
-            15 => Ok(Kind::Switch),
-            16 => Ok(Kind::TypeSwitch),
-            17 => Ok(Kind::Comm),
-            18 => Ok(Kind::Select),
-            19 => Ok(Kind::For),
-            20 => Ok(Kind::Range),
-            _ => Err(NoKind),
+        if 21 <= word {
+            return Err(NoKind);
         }
+        Ok(Kind::numbered(word))
     }
 }
 
@@ -98,14 +78,44 @@ impl From<Kind> for u32 {
 }
 
 impl Kind {
-    // Kinds 19 and 20, which a continue needs.
+    // The kind of this number, of the 21.
+    pub(crate) fn numbered(word: u32) -> Kind
+        requires { word < 21 }
+        ensures { number result ≡ word }
+    {
+        match word {
+            0 => Kind::Bad,
+            1 => Kind::Decl,
+            2 => Kind::Empty,
+            3 => Kind::Labeled,
+            4 => Kind::Expr,
+            5 => Kind::Send,
+            6 => Kind::IncDec,
+            7 => Kind::Assign,
+            8 => Kind::Go,
+            9 => Kind::Defer,
+            10 => Kind::Return,
+            11 => Kind::Branch,
+            12 => Kind::Block,
+            13 => Kind::If,
+            14 => Kind::Case,
+            15 => Kind::Switch,
+            16 => Kind::TypeSwitch,
+            17 => Kind::Comm,
+            18 => Kind::Select,
+            19 => Kind::For,
+            _ => Kind::Range,
+        }
+    }
+
+    // For and Range, which a continue needs.
     pub fn is_loop(self) -> bool
         ensures { (d : ℕ) → detail_allowed (number self) d ≡ true → result ≡ is_loop (class_of (number self) d) }
     {
         matches!(self, Kind::For | Kind::Range)
     }
 
-    // Kinds 15, 16, 18, 19 and 20, which a break needs.
+    // Either switch, Select, For and Range, which a break needs.
     pub fn is_breakable(self) -> bool
         ensures { (d : ℕ) → detail_allowed (number self) d ≡ true → result ≡ is_breakable (class_of (number self) d) }
     {
@@ -119,7 +129,7 @@ impl Kind {
     pub fn is_statement(self) -> bool
         ensures { (d : ℕ) → detail_allowed (number self) d ≡ true → result ≡ is_statement (class_of (number self) d) }
     {
-        !matches!(self, Kind::Case | Kind::Comm)
+        self != Kind::Case && self != Kind::Comm
     }
 
     // Whether a row of this kind holds items: Block, Case or Comm.

@@ -7,7 +7,7 @@ use mathlib.Core.Path.{◌≡◌, refl, sym, ◌∙◌, subst}
 use mathlib.Core.Bool.{true, false}
 use mathlib.Core.List.{List, [], ◌∷◌}
 use mathlib.Core.Logic.{◌⊎◌, inl, inr, ⊎_elim}
-use Prim.Native.Nat.{ℕ, suc, ◌+◌, ◌*◌, ◌≤◌, ◌<◌}
+use Prim.Native.Nat.{ℕ, suc, ◌+◌, ◌-◌, ◌*◌, ◌≤◌, ◌<◌}
 use native.Mathlib.Omega.{arith}
 use native.Mathlib.Numerals.{add-one}
 use native.Mathlib.Decide.{ℕ_discrete, dec_lt}
@@ -85,6 +85,17 @@ pub record Statement-at (w : List ℕ) (b s g : ℕ) : Type 0 where
   pub met : Met w b g
   pub later : 0 < b
   pub size_is : s ≡ size w b
+
+pub sets-out : {w : List ℕ} (p : List ℕ) {b s g : ℕ} → Statement-at w b s g → Going w p b (b + s) b g
+sets-out p a =
+    let z = a.size_is in
+    record {
+      low = omega arith;
+      high = omega arith;
+      room = omega (arith, a.met.deepest);
+      seen = record { allowed = λ k l m. absurd (omega arith); inside = λ k l m. absurd (omega arith); right = λ o k l m. absurd (omega arith) };
+      next = λ l. record { some_rows = a.met.some_rows; within = omega arith; shallow = a.met.shallow; after = inl (omega arith) };
+    }
 
 -- with no row left
 pub goes_through : {w p : List ℕ} {b s g : ℕ} → Statement-at w b s g → {c d : ℕ} → Going w p b (b + s) c d → b + s ≤ c → Right w p b × RightBelow w p b
@@ -219,6 +230,9 @@ module _ {w p : List ℕ} {b s g c d : ℕ} (a : Turn w p b s g c d) where
           seen = list-seen;
           next = λ n. ⊎_elim (λ (e : end w c ≡ b + s). absurd (omega arith)) other-next here.after;
         }
+
+  pub list-falls : {n : ℕ} → n ≡ size w c → (b + s) - (c + n) < (b + s) - c
+  list-falls y = let l = a.left in omega (arith, here.some_rows)
 
   -- ---- past a row that holds no list, to its first child
   module _ {h : Holding} (e : h ≡ holding (class w c)) (n : is_list h ≡ false) (v : Parts w h c) where

@@ -10,7 +10,7 @@ use native.Mathlib.Decide.{ℕ_discrete, dec_lt}
 use borrow.Author.Tests.{le-leb}
 use Rattle.std.specs.Prelude.{Option, Some, None}
 use Rattle.std.specs.Option.{is_some}
-use Rattle.rules.specs.Rows.{kind, detail, size, end, depth}
+use Rattle.rules.specs.Rows.{row_count, kind, detail, size, end, depth}
 use Rattle.rules.specs.Class.{Class, is_statement, detail_allowed, class_of, base, class}
 use Rattle.rules.specs.Refusals.{Holding, nothing, statement, body, branches, statements, cases, comms, holding, may_hold, at_least}
 use Rattle.rules.proofs.Facts.{good-row}
@@ -77,6 +77,9 @@ pub record Listed (w p : List ℕ) (r e c : ℕ) : Type 0 where
   pub passed : Passed w p (r + 1) c
 
 module _ {w p : List ℕ} {r e c : ℕ} (o : Listed w p r e c) where
+  pub stands-in : (c ≤ e) × (e ≤ row_count w)
+  stands-in = (o.walk.high, o.walk.within)
+
   item-depth : depth w c ≤ suc (depth w r)
   item-depth = let m = o.walk.low in deeper w r c (omega arith) (λ k u v. o.passed.inside k (omega arith) v)
 

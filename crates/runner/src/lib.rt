@@ -1,20 +1,19 @@
 // The walk call: a body's runner led by given choices, up to a limit of steps.
 #![tactic(auto)]
 
-ghost use Rattle.std.specs.Prelude.{◌≡◌, ◌≤◌, ◌<◌};
+ghost use Rattle.std.specs.Prelude.{◌≡◌, ◌≤◌, ◌<◌, IfSome};
 ghost use Rattle.rules.specs.Rows.{row_count};
 ghost use Rattle.rules.specs.Runner.{at};
 ghost use Rattle.rules.specs.Calls.{answered};
 ghost use Rattle.rules.specs.Walking.{place_of, walked, is_fork, walk_on, walk_call, Inside};
-ghost use Rattle.steps.specs.StepTable.{StepTable as IsStepTable};
 ghost use Rattle.runner.specs.Given.{state_of, given};
 ghost use Rattle.runner.specs.Rounds.{Goes, Skipped};
 
 use body::Body;
 use destinations::FaultlessBody;
 use refusals::Refusal;
+use rows::RowNumber;
 use rows::kinds::Kind;
-use rows::{RowNumber, details};
 use steps::StepTable;
 
 #[derive(Clone, Copy, Debug, PartialEq, Eq)]
@@ -44,7 +43,8 @@ fn is_fork(body: Body<'_>, row: RowNumber) -> bool
     match rows::kind_at(rows, row) {
         Kind::If | Kind::Switch | Kind::TypeSwitch | Kind::Range => true,
         Kind::Select => 2 < rows::size(rows, row),
-        Kind::For => rows::detail(rows, row) == details::WITH_CONDITION,
+        // with a condition
+        Kind::For => rows::is_marked(rows, row),
         _ => false,
     }
 }
@@ -68,70 +68,52 @@ fn reached(word: usize, steps: usize, used: usize) -> Result<WalkEnd, Refusal>
     Ok(WalkEnd { place, steps, used })
 }
 
-// The steps of a round from the place back to it without a fork; 0 where there is none of as many
+// The steps of a round from the place back to it without a fork, where there is one of at most as many
 // steps as there are rows.
 #[tactic(auto, using(crate::proofs::Turns::inside_row))]
-fn round_from(faultless: FaultlessBody<'_>, table: StepTable<'_>, place: usize) -> usize
-    requires table { IsStepTable faultless.body.rows.now faultless.body.pairs.now
-        faultless.body.bytes.now table.firsts.now table.steps.now }
-    requires inside { Inside faultless.body.rows.now (place_of place) }
-    ensures { Goes faultless.entry.body.rows.now faultless.entry.body.pairs.now
-        faultless.entry.body.bytes.now place result place }
+fn round_from(table: StepTable<'_>, place: usize) -> Option<usize>
+    requires { Inside table.faultless.body.rows.now (place_of place) }
+    ensures { IfSome result (λ round. (0 < round) × Goes table.entry.faultless.body.rows.now
+        table.entry.faultless.body.pairs.now table.entry.faultless.body.bytes.now place round place) }
 {
     let mut here = place;
-    for made in 0..faultless.body.rows.len() / 5 {
+    for made in 0..table.faultless.body.rows.len() / 5 {
         if here < 2 {
-            return 0;
+            return None;
         }
         let row = here - 2;
-        if is_fork(faultless.body, RowNumber(row)) {
-            return 0;
+        if is_fork(table.faultless.body, RowNumber(row)) {
+            return None;
         }
         here = usize::from(table.steps[usize::from(table.firsts[row])]);
         if here == place {
-            return made + 1;
+            return Some(made + 1);
         }
     }
-    0
+    None
 }
 
 // The steps made, with whole rounds without a fork added up to the limit, so that a walk takes no
 // longer for a limit that it could reach only in rounds. Rounds are looked for now and then.
-fn past_rounds(
-    faultless: FaultlessBody<'_>,
-    table: StepTable<'_>,
-    place: usize,
-    made: usize,
-    limit: usize,
-) -> usize
-    requires table { IsStepTable faultless.body.rows.now faultless.body.pairs.now
-        faultless.body.bytes.now table.firsts.now table.steps.now }
-    requires inside { Inside faultless.body.rows.now (place_of place) × (made ≤ limit) }
-    ensures { Skipped faultless.entry.body.rows.now faultless.entry.body.pairs.now
-        faultless.entry.body.bytes.now limit place made result }
+fn past_rounds(table: StepTable<'_>, place: usize, made: usize, limit: usize) -> usize
+    requires { Inside table.faultless.body.rows.now (place_of place) × (made ≤ limit) }
+    ensures { Skipped table.entry.faultless.body.rows.now table.entry.faultless.body.pairs.now
+        table.entry.faultless.body.bytes.now limit place made result }
 {
     if made % 65536 != 0 {
         return made;
     }
-    let round = round_from(faultless, table, place);
-    if round == 0 {
-        return made;
+    match round_from(table, place) {
+        Some(round) => limit - (limit - made) % round,
+        None => made,
     }
-    limit - (limit - made) % round
 }
 
 // The walk from row 0, each step looked up in the tables.
 #[tactic(auto, using(crate::proofs::Turns::inside_row))]
-fn walk_on(
-    faultless: FaultlessBody<'_>,
-    table: StepTable<'_>,
-    choices: &[u32],
-    limit: usize,
-) -> Result<WalkEnd, Refusal>
-    requires { IsStepTable faultless.body.rows.now faultless.body.pairs.now
-        faultless.body.bytes.now table.firsts.now table.steps.now }
-    ensures { given result ≡ walk_on faultless.entry.body.rows.now faultless.entry.body.pairs.now
-        faultless.entry.body.bytes.now choices.now limit (at 0) 0 0 }
+fn walk_on(table: StepTable<'_>, choices: &[u32], limit: usize) -> Result<WalkEnd, Refusal>
+    ensures { given result ≡ walk_on table.entry.faultless.body.rows.now
+        table.entry.faultless.body.pairs.now table.entry.faultless.body.bytes.now choices.now limit (at 0) 0 0 }
 {
     let mut place = 2;
     let mut made = 0;
@@ -142,7 +124,7 @@ fn walk_on(
         }
         let r = place - 2;
         let mut step = usize::from(table.firsts[r]);
-        if is_fork(faultless.body, RowNumber(r)) {
+        if is_fork(table.faultless.body, RowNumber(r)) {
             if choices.len() <= used {
                 return reached(place, made, used);
             }
@@ -154,7 +136,7 @@ fn walk_on(
             used += 1;
         }
         place = usize::from(table.steps[step]);
-        made = past_rounds(faultless, table, place, made + 1, limit);
+        made = past_rounds(table, place, made + 1, limit);
     }
     reached(place, made, used)
 }
@@ -176,10 +158,11 @@ fn walk_of(body: Body<'_>, choices: &[u32], limit: usize) -> Result<WalkEnd, Ref
     let mut steps = [0u16; 6000];
     steps::steps_of(faultless, &mut firsts, &mut steps);
     let table = StepTable {
+        faultless,
         firsts: &firsts,
         steps: &steps,
     };
-    walk_on(faultless, table, choices, limit)
+    walk_on(table, choices, limit)
 }
 
 // The walk from row 0 by the choices, of `limit` steps at most: the place reached, the steps made and

@@ -12,8 +12,8 @@ ghost use Rattle.rows.specs.Kinds.{number};
 ghost use Rattle.shape.specs.Held.{held};
 ghost use Rattle.shape.specs.DetailedTo.{DetailedTo};
 
+use rows::RowNumber;
 use rows::kinds::Kind;
-use rows::{RowNumber, details};
 
 // What stands below a row.
 #[derive(Clone, Copy, Debug, PartialEq, Eq)]
@@ -58,7 +58,8 @@ pub fn holding_at(rows: &[u32], row: RowNumber) -> Holding
         Kind::Labeled => Holding::Statement,
         Kind::Block => block_holding(rows, row),
         Kind::If => {
-            if rows::detail(rows, row) == details::WITH_ELSE {
+            let with_else = rows::is_marked(rows, row);
+            if with_else {
                 Holding::Branches
             } else {
                 Holding::Body

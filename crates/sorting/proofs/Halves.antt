@@ -17,20 +17,20 @@ pub sorted-short : (p b s : List ℕ) → length s < 2 → Sorted p b s
 sorted-short p b s h i j l m = let e : i ≡ j = omega arith in rw e (before-not-self (name_bytes p b (get_or s j 0)))
 
 -- the part from m on, and the list with f in its place
-abbrev rest : ℕ → List ℕ → List ℕ
+abbrev pub rest : ℕ → List ℕ → List ℕ
 rest m x = take (length x - m) (drop m x)
 
-abbrev put : ℕ → List ℕ → List ℕ → List ℕ
+abbrev pub put : ℕ → List ℕ → List ℕ → List ℕ
 put m x f = take m x ++ (f ++ drop (length x - m) (drop m x))
 
 module _ (m : ℕ) (s e : List ℕ) (h : m ≤ length s) (k : length e ≡ length (take m s)) where
-  first_part : length e ≡ m
+  pub first_part : length e ≡ m
   first_part = omega (arith, length-take m s)
 
-  rest-is : rest m (e ++ drop m s) ≡ drop m s
+  pub rest-is : rest m (e ++ drop m s) ≡ drop m s
   rest-is = rw (drop_at e (drop m s) m first_part) (take_all (length (e ++ drop m s) - m) (drop m s) (omega (arith, length_front s e m k, length-drop m s)))
 
-  put_is : (f : List ℕ) → put m (e ++ drop m s) f ≡ e ++ f
+  pub put_is : (f : List ℕ) → put m (e ++ drop m s) f ≡ e ++ f
   put_is f =
       rw (
         take_at e (drop m s) m first_part,

@@ -1,3 +1,4 @@
 pub mod Elements
 pub mod Halves
+pub mod Joined
 pub mod Merging

@@ -17,11 +17,14 @@ use classes::Class;
 use destinations::FaultlessBody;
 use rows::RowNumber;
 
-// The steps of all rows: where each row's begin, and the places that they lead to.
+// The steps of all rows of a body without a fault: where each row's begin, and the places that they
+// lead to.
 #[derive(Clone, Copy)]
 pub struct StepTable<'t> {
+    pub faultless: FaultlessBody<'t>,
     pub firsts: &'t [u16],
     pub steps: &'t [u16],
+    ghost is_table: { IsStepTable faultless.body.rows.now faultless.body.pairs.now faultless.body.bytes.now firsts.now steps.now },
 }
 
 // What the steps of a row go by, a word a row: the place after it, and the place that it goes to if it

@@ -1,4 +1,5 @@
 // Rows, pairs and names, made by loops.
+use rows::details::Branch;
 use rows::kinds::Kind;
 
 // A row; its position is 1.
@@ -18,6 +19,15 @@ impl Row {
             name,
             size,
         }
+    }
+
+    pub fn branch(branch: Branch, name: u32) -> Row {
+        Row::new(Kind::Branch, u32::from(branch), name, 1)
+    }
+
+    // The default clause of a switch.
+    pub fn default_case(size: u32) -> Row {
+        Row::new(Kind::Case, 1, 0, size)
     }
 
     fn words(self) -> [u32; 5] {

@@ -7,8 +7,7 @@ use Rattle.destinations.proofs.destinations_of.Goals as goal
 pub enclosing_of-requires : goal.enclosing_of-requires
 enclosing_of-requires c =
     let body = formed c.args.faultless.faultless in
-    let few = body.most_rows in
-    record { formed = ((_, _, body), c.requires.parents.0, c.requires.rows_in_bounds.0); rows_in_bounds = (few, few, few) }
+    record { formed = ((_, _, body), c.requires.parents.0, c.requires.rows_in_bounds.0); rows_in_bounds = body.most_rows }
 
 pub write_destinations-requires-clause-tables : goal.write_destinations-requires-clause-tables
 write_destinations-requires-clause-tables c =
@@ -18,10 +17,8 @@ write_destinations-requires-clause-tables c =
       bound = c.args.faultless.bound;
       afters_room = c.requires.rows_in_bounds.1;
       after_rows = c.requires.parents.1;
-      breakables_room = search rules;
+      enclosing_room = search rules;
       breakable_rows = around.breakables;
-      loops_room = search rules;
       loop_rows = around.loops;
-      cases_room = search rules;
       case_rows = around.cases;
     }

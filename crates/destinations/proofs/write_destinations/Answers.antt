@@ -1,3 +1,5 @@
+-- A row that is no Branch by its kind is none by its class.
+-- Assumes nothing.
 use mathlib.Core.Path.{◌≡◌, sym, ◌∙◌}
 use mathlib.Core.Bool.{false}
 use Prim.Native.Nat.{◌<◌}
@@ -7,7 +9,7 @@ use borrow.Author.Tests.{ne_eqb}
 use Rattle.rules.specs.Class.{is_branch, class}
 use Rattle.rules.proofs.Lists.{branch-kind}
 use Rattle.rows.specs.declared.kinds.Kind.TheVariants.{Branch}
-use Rattle.rows.proofs.Numbers.{eq-true, eq-false}
+use Rattle.rows.proofs.Numbers.{eq-false}
 use Rattle.destinations.proofs.Places.{formed}
 use Rattle.destinations.proofs.Written.{branch-more, other-more}
 use Rattle.destinations.proofs.write_destinations.Goals as goal
@@ -15,9 +17,6 @@ use Rattle.destinations.proofs.write_destinations.Goals.{then-eq, else-eq}
 
 pub kind_at-requires-clause-allowed : goal.kind_at-requires-clause-allowed
 kind_at-requires-clause-allowed c = (formed c.args.faultless.faultless).details _ c.loop-r-test.true
-
-pub destination-requires : goal.destination-requires
-destination-requires c = record { tables = c.requires.tables; r_bound = (c.loop-r-test.true, eq-true _ Branch c.kind_at.ensures (sym c.if-eq.true ∙ c.eq.ensures)) }
 
 pub loop-r-preserved : goal.loop-r-preserved
 loop-r-preserved c =

@@ -1,4 +1,6 @@
-use mathlib.Core.Path.{sym, ◌∙◌}
+-- The climb starts at the row whose list the branch stands in, and goes on from one such row to the next; at a Block whose label has the branch's
+-- number it has found the target, and past the last there is none.
+-- Assumes nothing.
 use native.Mathlib.Omega.{arith}
 use Rattle.rows.specs.declared.kinds.Kind.TheVariants.{Block}
 use Rattle.rows.proofs.Numbers.{eq-true, eq-false}
@@ -6,83 +8,71 @@ use Rattle.walk_state.proofs.TableRows.{canon-place}
 use Rattle.jumps.proofs.ListClimb.{climb-start, no_name, climb-none, climb-in, climb-less, climb-plain, climb-unlabelled, label-in}
 use Rattle.jumps.proofs.ListClimb.{climb-other, climb-found}
 use Rattle.jumps.proofs.enclosing_target.Goals as goal
-use Rattle.jumps.proofs.enclosing_target.Goals.{then-eq+else-label-ne0, else-label-ne0-via-then-label-ne0+else-canon_of-c, else-label-ne0-via-else-label-ne0, else-eq}
+use Rattle.jumps.proofs.enclosing_target.Goals.{then-eq+in-Some-found+else-canon_of-c, then-eq+in_default-found, else-eq}
 
 pub canon_of-c-requires : goal.canon_of-c-requires
-canon_of-c-requires c =
-    (c.requires.row_bound.0, canon-place c.requires.tables _ c.requires.row_bound.0)
+canon_of-c-requires c = (c.requires.row_bound.0, canon-place c.requires.tables _ c.requires.row_bound.0)
 
 pub returns-then-c-eq0 : goal.returns-then-c-eq0
-returns-then-c-eq0 c =
-    no_name c.requires.tables _ c.requires.row_bound.0 c.canon_of-c.ensures c.if-c-eq0.true
+returns-then-c-eq0 c = no_name c.requires.tables _ c.requires.row_bound.0 c.canon_of-c.ensures c.if-c-eq0.true
 
-pub offset_bounds-tables-r : goal.offset_bounds-tables-r
-offset_bounds-tables-r c = omega (arith, c.requires.tables.lists_room)
-
-pub bounds-tables-r : goal.bounds-tables-r
-bounds-tables-r c = omega (arith, c.requires.tables.lists_room)
-
-pub loop-list-init : goal.loop-list-init
-loop-list-init c =
-    climb-start c.requires.tables _ c.requires.row_bound.0 c.canon_of-c.ensures _ c.from-list.ensures
+pub loop-open-init : goal.loop-open-init
+loop-open-init c = climb-start c.requires.tables _ c.requires.row_bound.0 c.canon_of-c.ensures _ c.row_of-open.ensures
 
 pub kind_at-requires : goal.kind_at-requires
 kind_at-requires c =
-    let h = climb-in c.requires.tables _ c.requires.row_bound.0 c.canon_of-c.ensures _ c.loop-list.invariant c.loop-list-test.true in
+    let h = climb-in c.requires.tables _ c.requires.row_bound.0 c.canon_of-c.ensures _ (rw c.in-Some.is at c.loop-open.invariant) in
     record { row_bound = h; allowed = c.requires.tables.body.details _ h }
-
-pub offset_bounds-goto_or_label-l : goal.offset_bounds-goto_or_label-l
-offset_bounds-goto_or_label-l c =
-    omega (arith, climb-in c.requires.tables _ c.requires.row_bound.0 c.canon_of-c.ensures _ c.loop-list.invariant c.loop-list-test.true, c.requires.tables.body.most_rows)
-
-pub bounds-goto_or_label-l : goal.bounds-goto_or_label-l
-bounds-goto_or_label-l c =
-    omega (arith, climb-in c.requires.tables _ c.requires.row_bound.0 c.canon_of-c.ensures _ c.loop-list.invariant c.loop-list-test.true, c.requires.block_labels.0)
 
 pub canon_of-requires : goal.canon_of-requires
 canon_of-requires c =
-    let h = label-in c.requires.tables _ c.requires.row_bound.0 c.canon_of-c.ensures _ c.loop-list.invariant c.loop-list-test.true (eq-true _ Block c.kind_at.ensures (sym c.if-eq.true ∙ c.eq.ensures))
-    c.args.goto_or_label.now c.requires.block_labels
-    _ c.from-label.ensures c.if-label-ne0.true in
+    let h = label-in c.requires.tables _ c.requires.row_bound.0 c.canon_of-c.ensures _ (rw c.in-Some.is at c.loop-open.invariant)
+    (eq-true _ Block c.kind_at.ensures c.if-eq.ensures) _ c.requires.block_labels _ c.in-Some-found.ensures in
     (h, canon-place c.requires.tables _ h)
 
 pub returns-then-canon_of-c : goal.returns-then-canon_of-c
 returns-then-canon_of-c c =
-    climb-found c.requires.tables _ c.requires.row_bound.0 c.canon_of-c.ensures _ c.loop-list.invariant c.loop-list-test.true (eq-true _ Block c.kind_at.ensures (sym c.if-eq.true ∙ c.eq.ensures))
-    c.args.goto_or_label.now c.requires.block_labels _ c.from-label.ensures c.if-label-ne0.true
-    _ c.canon_of.ensures c.if-c-eq0.false c.if-canon_of-c.true
+    climb-found c.requires.tables _ c.requires.row_bound.0 c.canon_of-c.ensures _ (rw c.in-Some.is at c.loop-open.invariant)
+    (eq-true _ Block c.kind_at.ensures c.if-eq.ensures) _ c.requires.block_labels _ c.in-Some-found.ensures _ c.canon_of.ensures
+    c.if-c-eq0.false c.if-canon_of-c.true
 
-pub offset_bounds-tables-l : goal.offset_bounds-tables-l
-offset_bounds-tables-l c =
-    omega (arith, climb-in c.requires.tables _ c.requires.row_bound.0 c.canon_of-c.ensures _ c.loop-list.invariant c.loop-list-test.true, c.requires.tables.body.most_rows)
+pub offset_bounds-tables-list : goal.offset_bounds-tables-list
+offset_bounds-tables-list c =
+    omega (
+      arith,
+      climb-in c.requires.tables _ c.requires.row_bound.0 c.canon_of-c.ensures _ (rw c.in-Some.is at c.loop-open.invariant),
+      c.requires.tables.body.most_rows,
+    )
 
-pub bounds-tables-l : goal.bounds-tables-l
-bounds-tables-l c =
-    omega (arith, climb-in c.requires.tables _ c.requires.row_bound.0 c.canon_of-c.ensures _ c.loop-list.invariant c.loop-list-test.true, c.requires.tables.lists_room)
+pub bounds-tables-list : goal.bounds-tables-list
+bounds-tables-list c =
+    omega (
+      arith,
+      climb-in c.requires.tables _ c.requires.row_bound.0 c.canon_of-c.ensures _ (rw c.in-Some.is at c.loop-open.invariant),
+      c.requires.tables.lists_room,
+    )
 
-pub loop-list-smaller : goal.loop-list-smaller
-loop-list-smaller c =
-    climb-less c.requires.tables _ c.requires.row_bound.0 c.canon_of-c.ensures _ c.loop-list.invariant c.loop-list-test.true _ c.from-list-in-loop-list.ensures
+pub loop-open-smaller : goal.loop-open-smaller
+loop-open-smaller c =
+    rw c.in-Some.is
+    (climb-less c.requires.tables _ c.requires.row_bound.0 c.canon_of-c.ensures _ (rw c.in-Some.is at c.loop-open.invariant)
+    _ c.row_of-open-in-Some.ensures)
 
-pub loop-list-preserved : goal.loop-list-preserved
-loop-list-preserved c =
-    let next = c.from-list-in-loop-list.ensures in
+pub loop-open-preserved : goal.loop-open-preserved
+loop-open-preserved c =
+    let next = c.row_of-open-in-Some.ensures in
     elim c.if-eq.branch [
-      | then-eq+else-label-ne0 w ↦
-          let block = eq-true _ Block c.kind_at.ensures (sym w.if-eq.true ∙ c.eq.ensures) in
-          elim w.else-label-ne0.branch [
-            | else-label-ne0-via-then-label-ne0+else-canon_of-c v ↦
-                climb-other c.requires.tables _ c.requires.row_bound.0 c.canon_of-c.ensures _ c.loop-list.invariant c.loop-list-test.true block
-                c.args.goto_or_label.now c.requires.block_labels _ w.from-label.ensures v.if-label-ne0.true _ v.canon_of.ensures _ next v.if-canon_of-c.false
-            | else-label-ne0-via-else-label-ne0 v ↦
-                climb-unlabelled c.requires.tables _ c.requires.row_bound.0 c.canon_of-c.ensures _ c.loop-list.invariant c.loop-list-test.true block
-                c.args.goto_or_label.now c.requires.block_labels _ w.from-label.ensures _ next v.if-label-ne0.false
-          ]
+      | then-eq+in-Some-found+else-canon_of-c w ↦
+          climb-other c.requires.tables _ c.requires.row_bound.0 c.canon_of-c.ensures _ (rw c.in-Some.is at c.loop-open.invariant)
+          (eq-true _ Block c.kind_at.ensures w.if-eq.ensures) _ c.requires.block_labels _ w.in-Some-found.ensures _ w.canon_of.ensures _ next
+          w.if-canon_of-c.false
+      | then-eq+in_default-found w ↦
+          climb-unlabelled c.requires.tables _ c.requires.row_bound.0 c.canon_of-c.ensures _ (rw c.in-Some.is at c.loop-open.invariant)
+          (eq-true _ Block c.kind_at.ensures w.if-eq.ensures) _ c.requires.block_labels w.in_default-found.ensures _ next
       | else-eq w ↦
-          climb-plain c.requires.tables _ c.requires.row_bound.0 c.canon_of-c.ensures _ c.loop-list.invariant c.loop-list-test.true _ next
-          (eq-false _ Block c.kind_at.ensures (sym w.if-eq.false ∙ c.eq.ensures))
+          climb-plain c.requires.tables _ c.requires.row_bound.0 c.canon_of-c.ensures _ (rw c.in-Some.is at c.loop-open.invariant) _ next
+          (eq-false _ Block c.kind_at.ensures w.if-eq.ensures)
     ]
 
 pub returns : goal.returns
-returns c =
-    climb-none c.requires.tables _ c.requires.row_bound.0 c.canon_of-c.ensures _ c.loop-list.invariant c.loop-list-test.false
+returns c = climb-none c.requires.tables _ c.requires.row_bound.0 c.canon_of-c.ensures (rw c.in_default.is at c.loop-open.invariant)

@@ -12,12 +12,10 @@ rows_branches-walked-requires-clause-tables c =
     first_tables (facts_of c.args.body) (rw (pairs, bytes) at c.canon_table.ensures) c.declared_table.ensures c.requires.lent.lists_room
 
 pub rows_branches-walked-requires-clause-walking : goal.rows_branches-walked-requires-clause-walking
-rows_branches-walked-requires-clause-walking c = walking_start _ _ _ _ _ _ _ _ _ _ _ _ _ c.requires.lent
+rows_branches-walked-requires-clause-walking c = walking_start _ _ _ c.requires.lent
 
 pub rows_branches-walked-requires-clause-contexts : goal.rows_branches-walked-requires-clause-contexts
-rows_branches-walked-requires-clause-contexts c =
-    let l = c.requires.lent in
-    contexts-start l.latest_decls_room l.latest_decls_zero l.latest_labels_room l.latest_labels_zero
+rows_branches-walked-requires-clause-contexts c = contexts-start c.requires.lent.contexts_room c.requires.lent.contexts_zero
 
 pub returns : goal.returns
 returns c =

@@ -42,8 +42,8 @@ pub overflow_sub-declared : goal.overflow_sub-declared
 overflow_sub-declared c =
     some_word (at_name c.args.body c.requires.body c.requires.sorted c.requires.reported.1 c.loop-name-test.true c.from.ensures c.from-declared.ensures c.loop-name.invariant)
 
-pub put-requires : goal.put-requires
-put-requires c =
+pub report-requires : goal.report-requires
+report-requires c =
     let n = at_name c.args.body c.requires.body c.requires.sorted c.requires.reported.1 c.loop-name-test.true c.from.ensures c.from-declared.ensures c.loop-name.invariant in
     (label-row n, fault-fits n)
 
@@ -54,7 +54,7 @@ overflow_add-at c =
 pub loop-name-preserved : goal.loop-name-preserved
 loop-name-preserved c =
     turn (at_name c.args.body c.requires.body c.requires.sorted c.requires.reported.1 c.loop-name-test.true c.from.ensures c.from-declared.ensures c.loop-name.invariant)
-    _ c.put.ensures
+    _ c.report.ensures
 
 pub returns : goal.returns
 returns c =

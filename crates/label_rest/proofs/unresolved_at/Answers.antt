@@ -12,7 +12,9 @@ use Rattle.tables.specs.Canon.{CanonTable, DeclaredTable}
 use Rattle.walk_state.specs.Walk.{binding_at}
 use Rattle.body.specs.declared.Body.{Body}
 use Rattle.label_rest.specs.Left.{Left}
-use Rattle.body.proofs.Facts.{facts_of}
+use Rattle.rows.specs.declared.details.Branch.TheVariants.{Goto}
+use Rattle.rows.proofs.Branches.{ne-true, ne-false}
+use Rattle.body.proofs.Facts.{facts_of, allowed}
 use Rattle.label_rest.proofs.LeftRows.{canon-fits, count_small, AtBranch, used-fits, declared-fits, sheet-fits, over-bound}
 use Rattle.label_rest.proofs.LeftRows.{over-repeated, over-unbound, over-declared, over-blank, over-undeclared}
 use Rattle.label_rest.proofs.unresolved_at.Goals as goal
@@ -43,10 +45,13 @@ pub returns-else-bound-from : goal.returns-else-bound-from
 returns-else-bound-from c =
     over-repeated (branch c.args.body c.requires.body c.requires.row_bound c.requires.left c.canon_of-c.ensures) c.if-bound-ne0.true (λ e. c.if-bound-from.false (e ∙ sym c.from.ensures))
 
-pub returns-then-detail-ne-GOTO : goal.returns-then-detail-ne-GOTO
-returns-then-detail-ne-GOTO c =
+pub branch_at-requires-clause-allowed : goal.branch_at-requires-clause-allowed
+branch_at-requires-clause-allowed c = allowed c.args.body _ c.requires.row_bound.0
+
+pub returns-then-ne : goal.returns-then-ne
+returns-then-ne c =
     over-unbound (branch c.args.body c.requires.body c.requires.row_bound c.requires.left c.canon_of-c.ensures) c.if-bound-ne0.false
-    (λ e. c.if-detail-ne-GOTO.true (c.detail.ensures ∙ e))
+    (ne-true _ Goto c.branch_at.ensures (sym c.if-ne.true ∙ c.ne.ensures))
 
 pub bounds-label_rows-c-then-c-ne0 : goal.bounds-label_rows-c-then-c-ne0
 bounds-label_rows-c-then-c-ne0 c = declared-fits (branch c.args.body c.requires.body c.requires.row_bound c.requires.left c.canon_of-c.ensures)
@@ -54,38 +59,38 @@ bounds-label_rows-c-then-c-ne0 c = declared-fits (branch c.args.body c.requires.
 pub bounds-used-c-then-label_rows-c-ne0 : goal.bounds-used-c-then-label_rows-c-ne0
 bounds-used-c-then-label_rows-c-ne0 c = used-fits (branch c.args.body c.requires.body c.requires.row_bound c.requires.left c.canon_of-c.ensures)
 
-pub put-requires : goal.put-requires
-put-requires c =
-    let detail = sym c.detail.ensures ∙ c.if-detail-ne-GOTO.false in
+pub report-requires : goal.report-requires
+report-requires c =
+    let detail = ne-false _ Goto c.branch_at.ensures (sym c.if-ne.false ∙ c.ne.ensures) in
     (c.requires.row_bound.0, sheet-fits (branch c.args.body c.requires.body c.requires.row_bound c.requires.left c.canon_of-c.ensures) c.if-bound-ne0.false detail)
 
 pub overflow_add-result : goal.overflow_add-result
 overflow_add-result c =
-    let detail = sym c.detail.ensures ∙ c.if-detail-ne-GOTO.false in
+    let detail = ne-false _ Goto c.branch_at.ensures (sym c.if-ne.false ∙ c.ne.ensures) in
     omega (arith, count_small (branch c.args.body c.requires.body c.requires.row_bound c.requires.left c.canon_of-c.ensures) c.if-bound-ne0.false detail)
 
 pub returns-then-label_rows-c-ne0 : goal.returns-then-label_rows-c-ne0
 returns-then-label_rows-c-ne0 c =
-    let detail = sym c.detail.ensures ∙ c.if-detail-ne-GOTO.false in
+    let detail = ne-false _ Goto c.branch_at.ensures (sym c.if-ne.false ∙ c.ne.ensures) in
     over-declared (branch c.args.body c.requires.body c.requires.row_bound c.requires.left c.canon_of-c.ensures) c.if-bound-ne0.false detail c.if-c-ne0.true
-    c.if-label_rows-c-ne0.true _ c.put.ensures
+    c.if-label_rows-c-ne0.true _ c.report.ensures
 
-pub put-requires-2 : goal.put-requires-2
-put-requires-2 c =
-    let detail = sym c.detail.ensures ∙ c.if-detail-ne-GOTO.false in
+pub report-requires-2 : goal.report-requires-2
+report-requires-2 c =
+    let detail = ne-false _ Goto c.branch_at.ensures (sym c.if-ne.false ∙ c.ne.ensures) in
     (c.requires.row_bound.0, sheet-fits (branch c.args.body c.requires.body c.requires.row_bound c.requires.left c.canon_of-c.ensures) c.if-bound-ne0.false detail)
 
 pub overflow_add-result-2 : goal.overflow_add-result-2
 overflow_add-result-2 c =
-    let detail = sym c.detail.ensures ∙ c.if-detail-ne-GOTO.false in
+    let detail = ne-false _ Goto c.branch_at.ensures (sym c.if-ne.false ∙ c.ne.ensures) in
     omega (arith, count_small (branch c.args.body c.requires.body c.requires.row_bound c.requires.left c.canon_of-c.ensures) c.if-bound-ne0.false detail)
 
 pub returns : goal.returns
 returns c =
     let at = branch c.args.body c.requires.body c.requires.row_bound c.requires.left c.canon_of-c.ensures in
-    let detail = sym c.detail.ensures ∙ c.if-detail-ne-GOTO.false in
+    let detail = ne-false _ Goto c.branch_at.ensures (sym c.if-ne.false ∙ c.ne.ensures) in
     elim c.else-c-ne0.branch [
       | else-c-ne0-via-then-c-ne0+else-label_rows-c-ne0 w ↦
-          over-undeclared at c.if-bound-ne0.false detail w.if-c-ne0.true w.if-label_rows-c-ne0.false _ c.put-2.ensures
-      | else-c-ne0-via-else-c-ne0 w ↦ over-blank at c.if-bound-ne0.false detail w.if-c-ne0.false _ c.put-2.ensures
+          over-undeclared at c.if-bound-ne0.false detail w.if-c-ne0.true w.if-label_rows-c-ne0.false _ c.report-2.ensures
+      | else-c-ne0-via-else-c-ne0 w ↦ over-blank at c.if-bound-ne0.false detail w.if-c-ne0.false _ c.report-2.ensures
     ]

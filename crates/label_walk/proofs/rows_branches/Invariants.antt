@@ -2,6 +2,8 @@
 -- Assumes nothing.
 use mathlib.Core.Path.{◌≡◌}
 use lib.ListN.{length}
+use Rattle.rules.specs.Labels.{word}
+use Rattle.rows.specs.Found.{row_found}
 use Rattle.lists.specs.Listed.{InHand, ListedBelow}
 use Rattle.label_walk.proofs.WalkSteps.{Turn}
 use Rattle.label_walk.proofs.rows_branches.Given as goal
@@ -9,6 +11,6 @@ use Rattle.label_walk.proofs.rows_branches.Given as goal
 abbrev pub invariant-loop-r : goal.invariant-loop-r
 invariant-loop-r l =
     Turn l.body.rows.now l.body.pairs.now l.body.bytes.now l.r l.faults l.initial.sheet l.initial.bindings l.initial.heads
-    l.initial.goto_or_label l.initial.latest_decls l.initial.latest_labels l.sheet l.bindings l.heads l.goto_or_label l.latest_decls
-    l.latest_labels
-    × (length l.lists ≡ length l.initial.lists) × InHand l.body.rows.now l.around.list l.around.end l.r × ListedBelow l.body.rows.now l.lists l.r
+    l.initial.goto_or_label l.initial.contexts l.sheet l.bindings l.heads l.goto_or_label l.contexts
+    × (length l.lists ≡ length l.initial.lists) × InHand l.body.rows.now (word (row_found l.around.list)) l.around.end l.r
+    × ListedBelow l.body.rows.now l.lists l.r

@@ -11,8 +11,8 @@ overflow_sub-at c =
     let q = c.requires in
     resolve-some (at-counting q.counting c.loop-g.invariant) q.from c.loop-g-test.true c.if-g-latest.true
 
-pub put-requires : goal.put-requires
-put-requires c =
+pub report-requires : goal.report-requires
+report-requires c =
     let q = c.requires in
     let k = at-counting q.counting c.loop-g.invariant in
     let z = resolve-some k q.from c.loop-g-test.true c.if-g-latest.true in
@@ -31,7 +31,7 @@ loop-g-preserved c = λ all last h.
     elim c.if-g-latest.branch [
       | then-g-latest w ↦
           let z = resolve-some (at-counting q.counting i) q.from t w.if-g-latest.true in
-          rw (w.sheet-is, w.at-is) (resolve-put (i all last h) t w.if-g-latest.true z c.from-g.ensures w.position-other.ensures w.put.ensures)
+          rw (w.sheet-is, w.at-is) (resolve-put (i all last h) t w.if-g-latest.true z c.from-g.ensures w.position-other.ensures w.report.ensures)
       | else-g-latest w ↦ rw (w.sheet-is, w.at-is) (resolve-no (i all last h) t w.if-g-latest.false c.from-g.ensures)
     ]
 

@@ -7,13 +7,13 @@ use Rattle.rules.specs.Class.{is_default, class}
 use Rattle.returns.proofs.ByClass.{list-empty, last-answer}
 use Rattle.body.proofs.Facts.{facts_of}
 use Rattle.returns.proofs.Calls.{one-row-empties, last-call}
-use Rattle.returns.proofs.RowRule.{Known, expr-answer, return-answer, branch-answer, other-answer, labeled-call, labeled-answer, list-call}
+use Rattle.returns.proofs.RowRule.{Known, expr-answer, return-answer, jump-answer, leave-answer, other-answer, labeled-call, labeled-answer, list-call}
 use Rattle.returns.proofs.RowRule.{list-answer, if-answer, then-call, else-call, first-no, both-parts, switch-call, select-call, for-answer}
 use Rattle.returns.proofs.RowRule.{loop-answer, else-fits, below}
 use Rattle.returns.proofs.SwitchRule.{Opened, begin, ended, default-here, default-before, clause-call, is_open, is-left, next}
 use Rattle.returns.proofs.+is_terminating_is_terminating_list_is_terminating_switch.Goals as goal
 use Rattle.returns.proofs.+is_terminating_is_terminating_list_is_terminating_switch.Goals.{is_terminating-After-size, is_terminating_switch-After-size}
-use Rattle.returns.proofs.+is_terminating_is_terminating_list_is_terminating_switch.Goals.{is_terminating_switch-then-detail-eq-DEFAULT, is_terminating_switch-else-detail-eq-DEFAULT}
+use Rattle.returns.proofs.+is_terminating_is_terminating_list_is_terminating_switch.Goals.{is_terminating_switch-then-default, is_terminating_switch-else-default}
 
 -- ---- what is known of the row once the code has read its size
 known : {t : ℕ} (c : is_terminating-After-size t) →
@@ -49,38 +49,38 @@ pub is_terminating-is_terminating_list-requires : goal.is_terminating-is_termina
 is_terminating-is_terminating_list-requires t c =
     list-call (known (goal.at.is_terminating-is_terminating_list-requires t c).After-size) c.in-Block.ensures
 
-pub is_terminating-returns-then-detail-eq-WITHOUT_ELSE : goal.is_terminating-returns-then-detail-eq-WITHOUT_ELSE
-is_terminating-returns-then-detail-eq-WITHOUT_ELSE t c =
-    if-answer (known (goal.at.is_terminating-returns-then-detail-eq-WITHOUT_ELSE t c).After-size) c.in-If.ensures c.detail-in-If.ensures
-    c.if-detail-eq-WITHOUT_ELSE.true
+pub is_terminating-returns-then-not-with_else : goal.is_terminating-returns-then-not-with_else
+is_terminating-returns-then-not-with_else t c =
+    if-answer (known (goal.at.is_terminating-returns-then-not-with_else t c).After-size) c.in-If.ensures c.is_marked-with_else.ensures
+    c.if-not-with_else.true
 
 pub is_terminating-is_terminating-requires-in-If : goal.is_terminating-is_terminating-requires-in-If
 is_terminating-is_terminating-requires-in-If t c =
-    then-call (known (goal.at.is_terminating-is_terminating-requires-in-If t c).After-size) c.in-If.ensures c.detail-in-If.ensures
-    c.if-detail-eq-WITHOUT_ELSE.false
+    then-call (known (goal.at.is_terminating-is_terminating-requires-in-If t c).After-size) c.in-If.ensures c.is_marked-with_else.ensures
+    c.if-not-with_else.false
 
 pub is_terminating-returns-then-not-is_terminating : goal.is_terminating-returns-then-not-is_terminating
 is_terminating-returns-then-not-is_terminating t c =
-    first-no (known (goal.at.is_terminating-returns-then-not-is_terminating t c).After-size) c.in-If.ensures c.detail-in-If.ensures
-    c.if-detail-eq-WITHOUT_ELSE.false c.is_terminating-in-If.ensures c.if-not-is_terminating.true
+    first-no (known (goal.at.is_terminating-returns-then-not-is_terminating t c).After-size) c.in-If.ensures c.is_marked-with_else.ensures
+    c.if-not-with_else.false c.is_terminating-in-If.ensures c.if-not-is_terminating.true
 
 pub is_terminating-size-requires-in-If : goal.is_terminating-size-requires-in-If
 is_terminating-size-requires-in-If t c =
-    (then-call (known (goal.at.is_terminating-size-requires-in-If t c).After-size) c.in-If.ensures c.detail-in-If.ensures
-    c.if-detail-eq-WITHOUT_ELSE.false).1.0
+    (then-call (known (goal.at.is_terminating-size-requires-in-If t c).After-size) c.in-If.ensures c.is_marked-with_else.ensures
+    c.if-not-with_else.false).1.0
 
 pub is_terminating-overflow_add-els : goal.is_terminating-overflow_add-els
 is_terminating-overflow_add-els t c =
     omega (
       arith,
-      else-fits (known (goal.at.is_terminating-overflow_add-els t c).After-size) c.in-If.ensures c.detail-in-If.ensures
-          c.if-detail-eq-WITHOUT_ELSE.false c.size-in-If.ensures,
+      else-fits (known (goal.at.is_terminating-overflow_add-els t c).After-size) c.in-If.ensures c.is_marked-with_else.ensures
+          c.if-not-with_else.false c.size-in-If.ensures,
     )
 
 pub is_terminating-is_terminating-requires-in-If-2 : goal.is_terminating-is_terminating-requires-in-If-2
 is_terminating-is_terminating-requires-in-If-2 t c =
-    else-call (known (goal.at.is_terminating-is_terminating-requires-in-If-2 t c).After-size) c.in-If.ensures c.detail-in-If.ensures
-    c.if-detail-eq-WITHOUT_ELSE.false c.size-in-If.ensures
+    else-call (known (goal.at.is_terminating-is_terminating-requires-in-If-2 t c).After-size) c.in-If.ensures c.is_marked-with_else.ensures
+    c.if-not-with_else.false c.size-in-If.ensures
 
 pub is_terminating-is_terminating_switch-requires : goal.is_terminating-is_terminating_switch-requires
 is_terminating-is_terminating_switch-requires t c =
@@ -90,10 +90,10 @@ pub is_terminating-is_terminating_switch-requires-in-Select : goal.is_terminatin
 is_terminating-is_terminating_switch-requires-in-Select t c =
     select-call (known (goal.at.is_terminating-is_terminating_switch-requires-in-Select t c).After-size) c.in-Select.ensures
 
-pub is_terminating-returns-then-detail-eq-WITH_CONDITION : goal.is_terminating-returns-then-detail-eq-WITH_CONDITION
-is_terminating-returns-then-detail-eq-WITH_CONDITION t c =
-    for-answer (known (goal.at.is_terminating-returns-then-detail-eq-WITH_CONDITION t c).After-size) c.in-For.ensures c.detail-in-For.ensures
-    c.if-detail-eq-WITH_CONDITION.true
+pub is_terminating-returns-then-with_condition : goal.is_terminating-returns-then-with_condition
+is_terminating-returns-then-with_condition t c =
+    for-answer (known (goal.at.is_terminating-returns-then-with_condition t c).After-size) c.in-For.ensures c.is_marked-with_condition.ensures
+    c.if-with_condition.true
 
 pub is_terminating-has_break_list-requires : goal.is_terminating-has_break_list-requires
 is_terminating-has_break_list-requires t c = below (known (goal.at.is_terminating-has_break_list-requires t c).After-size)
@@ -103,14 +103,19 @@ is_terminating-returns-in-Labeled t c =
     labeled-answer (known (goal.at.is_terminating-returns-in-Labeled t c).After-size) c.in-Labeled.ensures c.is_terminating.ensures
 
 pub is_terminating-returns-in-Expr : goal.is_terminating-returns-in-Expr
-is_terminating-returns-in-Expr t c = expr-answer (known (goal.at.is_terminating-returns-in-Expr t c).After-size) c.in-Expr.ensures c.detail.ensures
+is_terminating-returns-in-Expr t c = expr-answer (known (goal.at.is_terminating-returns-in-Expr t c).After-size) c.in-Expr.ensures c.is_marked.ensures
 
 pub is_terminating-returns-in-Return : goal.is_terminating-returns-in-Return
 is_terminating-returns-in-Return t c = return-answer (known (goal.at.is_terminating-returns-in-Return t c).After-size) c.in-Return.ensures
 
-pub is_terminating-returns-in-Branch : goal.is_terminating-returns-in-Branch
-is_terminating-returns-in-Branch t c =
-    branch-answer (known (goal.at.is_terminating-returns-in-Branch t c).After-size) c.in-Branch.ensures c.detail-in-Branch.ensures
+pub is_terminating-returns-in-Goto : goal.is_terminating-returns-in-Goto
+is_terminating-returns-in-Goto t c =
+    jump-answer (known (goal.at.is_terminating-returns-in-Goto t c).After-size) c.in-Branch.ensures _ c.branch_at.ensures c.in-Goto.is
+
+pub is_terminating-returns-in_default-matches : goal.is_terminating-returns-in_default-matches
+is_terminating-returns-in_default-matches t c =
+    leave-answer (known (goal.at.is_terminating-returns-in_default-matches t c).After-size) c.in-Branch.ensures _ c.branch_at.ensures
+    c.in_default-matches.not-Goto c.in_default-matches.not-Fallthrough
 
 pub is_terminating-returns-in-Block : goal.is_terminating-returns-in-Block
 is_terminating-returns-in-Block t c =
@@ -118,13 +123,13 @@ is_terminating-returns-in-Block t c =
 
 pub is_terminating-returns-else-not-is_terminating : goal.is_terminating-returns-else-not-is_terminating
 is_terminating-returns-else-not-is_terminating t c =
-    both-parts (known (goal.at.is_terminating-returns-else-not-is_terminating t c).After-size) c.in-If.ensures c.detail-in-If.ensures
-    c.if-detail-eq-WITHOUT_ELSE.false c.is_terminating-in-If.ensures c.if-not-is_terminating.false c.size-in-If.ensures c.is_terminating-in-If-2.ensures
+    both-parts (known (goal.at.is_terminating-returns-else-not-is_terminating t c).After-size) c.in-If.ensures c.is_marked-with_else.ensures
+    c.if-not-with_else.false c.is_terminating-in-If.ensures c.if-not-is_terminating.false c.size-in-If.ensures c.is_terminating-in-If-2.ensures
 
-pub is_terminating-returns-else-detail-eq-WITH_CONDITION : goal.is_terminating-returns-else-detail-eq-WITH_CONDITION
-is_terminating-returns-else-detail-eq-WITH_CONDITION t c =
-    loop-answer (known (goal.at.is_terminating-returns-else-detail-eq-WITH_CONDITION t c).After-size) c.in-For.ensures c.detail-in-For.ensures
-    c.if-detail-eq-WITH_CONDITION.false c.has_break_list.ensures
+pub is_terminating-returns-else-with_condition : goal.is_terminating-returns-else-with_condition
+is_terminating-returns-else-with_condition t c =
+    loop-answer (known (goal.at.is_terminating-returns-else-with_condition t c).After-size) c.in-For.ensures c.is_marked-with_condition.ensures
+    c.if-with_condition.false c.has_break_list.ensures
 
 pub is_terminating-returns-in_default : goal.is_terminating-returns-in_default
 is_terminating-returns-in_default t c = other-answer (known (goal.at.is_terminating-returns-in_default t c).After-size) _ c.kind_at.ensures (search rules)
@@ -175,10 +180,10 @@ is_terminating_switch-loop-c-preserved t c =
     let o = opened (goal.at.is_terminating_switch-loop-c-preserved t c).After-size in
     let i = c.loop-c.invariant in
     let l = c.loop-c-test.true in
-    let default : c.if-detail-eq-DEFAULT.has_default ≡ c.loop-c.has_default || is_default (class c.args.body.rows.now c.loop-c.c) =
-    elim c.if-detail-eq-DEFAULT.branch [
-      | is_terminating_switch-then-detail-eq-DEFAULT w ↦ default-here o i l c.detail.ensures w.if-detail-eq-DEFAULT.true w.has_default-is
-      | is_terminating_switch-else-detail-eq-DEFAULT w ↦ default-before o i l c.detail.ensures w.if-detail-eq-DEFAULT.false w.has_default-is
+    let default : c.if-default.has_default ≡ c.loop-c.has_default || is_default (class c.args.body.rows.now c.loop-c.c) =
+    elim c.if-default.branch [
+      | is_terminating_switch-then-default w ↦ default-here o i l c.is_marked-default.ensures w.if-default.true w.has_default-is
+      | is_terminating_switch-else-default w ↦ default-before o i l c.is_marked-default.ensures w.if-default.false w.has_default-is
     ] in
     next o i l c.size-in-loop-c.ensures c.is_terminating_list.ensures c.if-not-is_terminating_list.false c.has_break_list.ensures
     c.if-has_break_list.false default

@@ -28,12 +28,14 @@ module _ (k d p n : ℕ) where
 pub returns-in-Labeled : goal.returns-in-Labeled
 returns-in-Labeled c = c.is_name.ensures ∙ must-have _ _ _ _ (λ h. labeled-name _ _ _ _ c.requires h (is-kind refl c.in-Labeled.is))
 
-pub returns-then-detail-eq-GOTO : goal.returns-then-detail-eq-GOTO
-returns-then-detail-eq-GOTO c =
-    c.is_name-then-detail-eq-GOTO.ensures ∙ must-have _ _ _ _ (λ h. goto-name _ _ _ _ c.requires h (is-kind refl c.in-Branch.is) c.if-detail-eq-GOTO.true)
+pub returns-then-detail-from : goal.returns-then-detail-from
+returns-then-detail-from c =
+    c.is_name-then-detail-from.ensures
+    ∙ must-have _ _ _ _ (λ h. goto-name _ _ _ _ c.requires h (is-kind refl c.in-Branch.is) (c.if-detail-from.true ∙ c.from.ensures))
 
-pub returns-else-detail-eq-GOTO : goal.returns-else-detail-eq-GOTO
-returns-else-detail-eq-GOTO c = may-have _ _ _ _ (λ h. branch-name _ _ _ _ c.requires h (is-kind refl c.in-Branch.is) c.if-detail-eq-GOTO.false)
+pub returns-else-detail-from : goal.returns-else-detail-from
+returns-else-detail-from c =
+    may-have _ _ _ _ (λ h. branch-name _ _ _ _ c.requires h (is-kind refl c.in-Branch.is) (λ e. c.if-detail-from.false (e ∙ sym c.from.ensures)))
 
 pub returns-in_default : goal.returns-in_default
 returns-in_default c =

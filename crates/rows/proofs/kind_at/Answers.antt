@@ -1,8 +1,7 @@
--- A kind whose detail is allowed is below 21, where each number is that of a kind.
+-- A kind whose detail is allowed is below 21.
 -- Assumes nothing.
-use native.Mathlib.Omega.{arith}
 use Rattle.rules.proofs.Details.{allowed-small}
 use Rattle.rows.proofs.kind_at.Goals as goal
 
-pub unreachable-requires : goal.unreachable-requires
-unreachable-requires c = omega (arith, c.in_default.ensures, c.kind.ensures, (allowed-small _ _ c.requires.allowed).0)
+pub numbered-requires : goal.numbered-requires
+numbered-requires c = rw c.kind.ensures (allowed-small _ _ c.requires.allowed).0

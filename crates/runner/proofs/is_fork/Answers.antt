@@ -3,8 +3,7 @@
 use mathlib.Core.Path.{sym, ◌∙◌, ap}
 use mathlib.Core.Bool.{or-false}
 use mathlib.Core.List.{[], ◌∷◌}
-use Prim.Native.Nat.{ℕ}
-use lib.Dec.{ltb, eqb}
+use lib.Dec.{ltb}
 use borrow.Author.Rules.{rules}
 use Rattle.rows.specs.declared.kinds.Kind.TheVariants.{If, Switch, TypeSwitch, Select, For, Range}
 use Rattle.body.proofs.Facts.{facts_of}
@@ -21,7 +20,7 @@ returns-in-Select c = ap (ltb 2) c.size.ensures ∙ fork-arm (facts_of c.args.bo
 
 pub returns-in-For : goal.returns-in-For
 returns-in-For c =
-    ap (λ (d : ℕ). eqb d 1) c.detail.ensures ∙ sym (or-false _) ∙ fork-arm (facts_of c.args.body) _ c.requires 19 c.in-For.ensures
+    c.is_marked.ensures ∙ sym (or-false _) ∙ fork-arm (facts_of c.args.body) _ c.requires 19 c.in-For.ensures
 
 pub returns-in_default : goal.returns-in_default
 returns-in_default c =

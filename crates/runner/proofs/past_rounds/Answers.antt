@@ -3,5 +3,5 @@
 use Rattle.runner.proofs.Rounding.{skipped}
 use Rattle.runner.proofs.past_rounds.Goals as goal
 
-pub returns : goal.returns
-returns c = skipped _ _ _ _ _ c.round_from-round.ensures _ _ c.requires.inside.1
+pub returns-in-Some : goal.returns-in-Some
+returns-in-Some c = skipped _ _ _ _ _ c.in-Some.ensures.1 _ _ c.requires.1

@@ -17,22 +17,22 @@ use Rattle.runner.proofs.walk_on.Goals.{After-from-step, Joined-is_fork}
 use Rattle.runner.proofs.walk_on.Goals.{then-is_fork+else-choices-used+else-from-step, else-is_fork}
 
 -- ---- the row in hand
-here : (c : After-from-step) → Inside c.args.faultless.body.rows.now (at (c.loop-made.place - 2))
+here : (c : After-from-step) → Inside c.args.table.faultless.body.rows.now (at (c.loop-made.place - 2))
 here c = row_inside _ _ c.if-place-lt2.false c.loop-made.invariant.inside
 
 pub loop-made-init : goal.loop-made-init
-loop-made-init c = turn-start c.args.faultless.faultless c.args.choices.now c.args.limit
+loop-made-init c = turn-start c.args.table.faultless.faultless c.args.choices.now c.args.limit
 
 pub returns-then-place-lt2 : goal.returns-then-place-lt2
 returns-then-place-lt2 c =
     c.reached.ensures
-    ∙ turn-ended c.args.faultless.faultless _ _ _ _ _ c.loop-made.invariant c.loop-made-test.true c.if-place-lt2.true
+    ∙ turn-ended c.args.table.faultless.faultless _ _ _ _ _ c.loop-made.invariant c.loop-made-test.true c.if-place-lt2.true
 
 pub returns-then-choices-used : goal.returns-then-choices-used
 returns-then-choices-used c =
     c.reached-then-choices-used.ensures
-    ∙ turn-no-choice c.args.faultless.faultless _ _ _ _ _ c.loop-made.invariant c.loop-made-test.true (c.loop-made.place - 2)
-    (row_word _ c.if-place-lt2.false) c.requires c.if-is_fork.ensures c.if-choices-used.true
+    ∙ turn-no-choice c.args.table.faultless.faultless _ _ _ _ _ c.loop-made.invariant c.loop-made-test.true (c.loop-made.place - 2)
+    (row_word _ c.if-place-lt2.false) c.args.table.is_table c.if-is_fork.ensures c.if-choices-used.true
 
 -- where the steps of the next row begin
 next-is : (f : List ℕ) (r : ℕ) → get_or f (r + 1) 0 ≡ get_or f (suc r) 0
@@ -42,13 +42,13 @@ pub overflow_sub-from : goal.overflow_sub-from
 overflow_sub-from c =
     let t = (goal.at.overflow_sub-from c).After-from-step in
     let r = c.loop-made.place - 2 in
-    omega (arith, c.from-step.ensures, c.from.ensures, next-is c.args.table.firsts.now r, next-first c.requires r (here t).0)
+    omega (arith, c.from-step.ensures, c.from.ensures, next-is c.args.table.firsts.now r, next-first c.args.table.is_table r (here t).0)
 
 pub returns-then-from-step : goal.returns-then-from-step
 returns-then-from-step c =
     let r = c.loop-made.place - 2 in
-    turn-refused c.args.faultless.faultless _ _ _ _ _ c.loop-made.invariant c.loop-made-test.true r (row_word _ c.if-place-lt2.false)
-    c.requires c.if-is_fork.ensures c.if-choices-used.false
+    turn-refused c.args.table.faultless.faultless _ _ _ _ _ c.loop-made.invariant c.loop-made-test.true r (row_word _ c.if-place-lt2.false)
+    c.args.table.is_table c.if-is_fork.ensures c.if-choices-used.false
     (omega (arith, c.from-step.ensures, c.from.ensures, next-is c.args.table.firsts.now r, c.if-from-step.true))
 
 -- ---- past the fork, if it is one: a step below the limit, by a choice in range, is in the table and leads on
@@ -58,7 +58,7 @@ InRange c =
 
 abbrev Leads : Joined-is_fork → Type 0
 Leads c =
-    let b = c.args.faultless.body in
+    let b = c.args.table.faultless.body in
     let step = c.if-is_fork.step in
     (step < length c.args.table.steps.now)
     × Turn b.rows.now b.pairs.now b.bytes.now c.args.choices.now c.args.limit
@@ -70,7 +70,7 @@ leads c h o =
     let w = row_word _ c.if-place-lt2.false in
     let firsts = c.args.table.firsts.now in
     let first = c.from-step.ensures in
-    let g = c.args.faultless.faultless in
+    let g = c.args.table.faultless.faultless in
     elim c.if-is_fork.branch [
       | then-is_fork+else-choices-used+else-from-step x ↦
           let next = next-is firsts r in
@@ -80,14 +80,14 @@ leads c h o =
           let used : c.if-is_fork.used ≡ suc c.loop-made.used = omega (arith, x.used-is) in
           let below : get_or c.args.choices.now c.loop-made.used 0 < get_or firsts (suc r) 0 - get_or firsts r 0 = omega (arith, o (omega arith)) in
           rw (step, used) (
-            chosen-in g _ _ _ _ _ c.loop-made.invariant h r w c.requires fork some below,
-            turn-chooses g _ _ _ _ _ c.loop-made.invariant h r w c.requires fork some below,
+            chosen-in g _ _ _ _ _ c.loop-made.invariant h r w c.args.table.is_table fork some below,
+            turn-chooses g _ _ _ _ _ c.loop-made.invariant h r w c.args.table.is_table fork some below,
           )
       | else-is_fork x ↦
           let step : c.if-is_fork.step ≡ get_or firsts r 0 = x.step-is ∙ first in
           rw (step, x.used-is) (
-            first-in g c.requires r (row_inside _ _ c.if-place-lt2.false c.loop-made.invariant.inside),
-            turn-goes g _ _ _ _ _ c.loop-made.invariant h r w c.requires x.if-is_fork.ensures,
+            first-in g c.args.table.is_table r (row_inside _ _ c.if-place-lt2.false c.loop-made.invariant.inside),
+            turn-goes g _ _ _ _ _ c.loop-made.invariant h r w c.args.table.is_table x.if-is_fork.ensures,
           )
     ]
 
@@ -95,15 +95,15 @@ pub bounds-table-step : goal.bounds-table-step
 bounds-table-step c =
     (leads (goal.at.bounds-table-step c).Joined-is_fork c.loop-made-test.true (search rules)).0
 
-pub past_rounds-made-requires-clause-inside : goal.past_rounds-made-requires-clause-inside
-past_rounds-made-requires-clause-inside c =
+pub past_rounds-made-requires : goal.past_rounds-made-requires
+past_rounds-made-requires c =
     let t = same_turn c.from-place.result _ (c.loop-made.made + 1) _ _ c.from-place.ensures (add-one _)
-    (leads (goal.at.past_rounds-made-requires-clause-inside c).Joined-is_fork c.loop-made-test.true (search rules)).1 in
+    (leads (goal.at.past_rounds-made-requires c).Joined-is_fork c.loop-made-test.true (search rules)).1 in
     (t.inside, t.within)
 
 pub loop-made-preserved : goal.loop-made-preserved
 loop-made-preserved c =
-    turn-skips c.args.faultless.faultless _ _ _ _ _
+    turn-skips c.args.table.faultless.faultless _ _ _ _ _
     (same_turn c.from-place.result _ (c.loop-made.made + 1) _ _ c.from-place.ensures (add-one _)
     (leads (goal.at.loop-made-preserved c).Joined-is_fork c.loop-made-test.true (search rules)).1)
     _ c.past_rounds-made.ensures
@@ -111,4 +111,4 @@ loop-made-preserved c =
 pub returns : goal.returns
 returns c =
     c.reached-2.ensures
-    ∙ turn-limit c.args.faultless.faultless _ _ _ _ _ c.loop-made.invariant c.loop-made-test.false
+    ∙ turn-limit c.args.table.faultless.faultless _ _ _ _ _ c.loop-made.invariant c.loop-made-test.false

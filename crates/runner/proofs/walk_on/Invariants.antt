@@ -6,7 +6,7 @@ use Rattle.runner.proofs.walk_on.Given as goal
 
 abbrev pub invariant-loop-made : goal.invariant-loop-made
 invariant-loop-made l =
-    let b = l.faultless.body in
+    let b = l.table.faultless.body in
     Turn b.rows.now b.pairs.now b.bytes.now l.choices l.limit l.place l.made l.used
 
 abbrev pub decreases-loop-made : goal.decreases-loop-made

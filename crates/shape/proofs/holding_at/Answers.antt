@@ -1,6 +1,6 @@
 -- But for a Block, the row's own kind says what stands below it, and of an If the detail too; a Block is left to `block_holding`.
 -- Assumes nothing.
-use mathlib.Core.Path.{◌≡◌, refl, sym, ◌∙◌}
+use mathlib.Core.Path.{◌≡◌, refl, sym}
 use mathlib.Core.Bool.{true, false}
 use mathlib.Core.List.{List, [], ◌∷◌}
 use mathlib.Core.Logic.{inl, inr}
@@ -15,6 +15,7 @@ use Rattle.rules.proofs.ByKind.{NoneOf, holders}
 use Rattle.rules.proofs.Classes.{is_block_lem, row-holding, leaf-holding, branches-holding, if-holding}
 use Rattle.rows.specs.declared.kinds.Kind.TheVariants.{Labeled, Block, If, Case, Switch, TypeSwitch, Comm, Select, For, Range}
 use Rattle.rows.proofs.Numbers.{is-kind, none-of}
+use Rattle.rows.proofs.Marks.{marked, unmarked}
 use Rattle.shape.specs.DetailedTo.{DetailedTo}
 use Rattle.shape.proofs.holding_at.Goals as goal
 
@@ -28,11 +29,11 @@ module _ (w : List ℕ) (r : ℕ) (d : DetailedTo w r) where
   numbered : (n : ℕ) → eqb n 12 ≡ false → eqb n 13 ≡ false → kind w r ≡ n → holding (class_of n 0) ≡ holding (class w r)
   numbered n f g e = sym (row-holding w r allowed n e f g)
 
-  with-else : (d : ℕ) → kind w r ≡ 13 → d ≡ detail w r → d ≡ 1 → branches ≡ holding (class w r)
-  with-else d e p o = sym (branches-holding w r allowed e (sym p ∙ o))
+  with-else : kind w r ≡ 13 → detail w r ≡ 1 → branches ≡ holding (class w r)
+  with-else e o = sym (branches-holding w r allowed e o)
 
-  without-else : (d : ℕ) → kind w r ≡ 13 → d ≡ detail w r → (d ≡ 1 → ⊥) → body ≡ holding (class w r)
-  without-else d e p n = sym (if-holding w r allowed e (λ o. n (p ∙ o)))
+  without-else : kind w r ≡ 13 → (detail w r ≡ 1 → ⊥) → body ≡ holding (class w r)
+  without-else e n = sym (if-holding w r allowed e n)
 
   other : NoneOf holders (kind w r) → nothing ≡ holding (class w r)
   other n = sym (leaf-holding w r allowed n)
@@ -44,13 +45,13 @@ pub returns-in-Labeled : goal.returns-in-Labeled
 unfolding class_of
 returns-in-Labeled c = numbered _ _ c.requires.1 3 refl refl (is-kind c.kind_at.ensures c.in-Labeled.is)
 
-pub returns-then-detail-eq-WITH_ELSE : goal.returns-then-detail-eq-WITH_ELSE
-returns-then-detail-eq-WITH_ELSE c =
-    with-else _ _ c.requires.1 _ (is-kind c.kind_at.ensures c.in-If.is) c.detail.ensures c.if-detail-eq-WITH_ELSE.true
+pub returns-then-with_else : goal.returns-then-with_else
+returns-then-with_else c =
+    with-else _ _ c.requires.1 (is-kind c.kind_at.ensures c.in-If.is) (marked c.is_marked-with_else.ensures c.if-with_else.true)
 
-pub returns-else-detail-eq-WITH_ELSE : goal.returns-else-detail-eq-WITH_ELSE
-returns-else-detail-eq-WITH_ELSE c =
-    without-else _ _ c.requires.1 _ (is-kind c.kind_at.ensures c.in-If.is) c.detail.ensures c.if-detail-eq-WITH_ELSE.false
+pub returns-else-with_else : goal.returns-else-with_else
+returns-else-with_else c =
+    without-else _ _ c.requires.1 (is-kind c.kind_at.ensures c.in-If.is) (unmarked c.is_marked-with_else.ensures c.if-with_else.false)
 
 pub returns-in-Case : goal.returns-in-Case
 unfolding class_of

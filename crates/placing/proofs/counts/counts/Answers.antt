@@ -1,14 +1,33 @@
--- A Branch is a row of kind 11; of the other kinds `is_breakable` says what counts.
+-- A row counts by its kind, as the table has it: one test at each allowed kind and detail.
 -- Assumes nothing.
-use mathlib.Core.Path.{refl, ◌∙◌}
-use borrow.Author.Tests.{eq-eqb, ne_eqb}
-use Rattle.rules.proofs.ByKind.{kind-jump}
-use Rattle.rows.specs.declared.kinds.Kind.TheVariants.{Branch}
-use Rattle.rows.proofs.Numbers.{eq-true, eq-false}
+use mathlib.Core.Path.{◌≡◌, refl}
+use mathlib.Core.Bool.{Bool, true, false}
+use mathlib.Core.List.{List, [], ◌∷◌}
+use Prim.Native.Nat.{ℕ}
+use lib.ListN.{get_or}
+use Rattle.rules.specs.Scan.{lowest}
+use Rattle.rules.specs.Class.{detail_allowed, class_of}
+use Rattle.rules.proofs.Every.{every, same, same-eq}
+use Rattle.rules.proofs.Details.{of-allowed, allowed-small}
+use Rattle.rules.proofs.Lists.{by-words}
+use Rattle.placing.specs.Counted.{counted}
+use Rattle.placing.proofs.Counting.{own-counted}
 use Rattle.placing.proofs.counts.counts.Goals as goal
 
-pub returns-then-eq : goal.returns-then-eq
-returns-then-eq c d a = c.if-eq.true ∙ rw (← kind-jump _ d a, eq-eqb _ 11 (eq-true _ Branch refl c.if-eq.ensures))
+-- COUNTED
+abbrev table : List Bool
+table =
+    false ∷ false ∷ false ∷ false ∷ false ∷ false ∷ false ∷ false ∷ false ∷ false ∷ false ∷ true ∷ false ∷ false ∷ false ∷ true ∷ true ∷ false ∷ true ∷ true
+    ∷ true ∷ []
 
-pub returns-else-eq : goal.returns-else-eq
-returns-else-eq c d a = c.is_breakable.ensures d a ∙ rw (← kind-jump _ d a, ne_eqb _ 11 (eq-false _ Branch refl c.if-eq.ensures))
+entry : (k d : ℕ) → detail_allowed k d ≡ true → get_or table k false ≡ counted (class_of k d)
+unfolding every lowest detail_allowed class_of
+entry k d a =
+    same-eq (get_or table k false) (counted (class_of k d)) (of-allowed (λ j i. same (get_or table j false) (counted (class_of j i))) refl k d a)
+
+pub bounds-kind : goal.bounds-kind
+bounds-kind c = rw c.kind-kind.ensures (allowed-small _ _ (c.requires.1 _ c.requires.0)).0
+
+pub returns : goal.returns
+returns c =
+    by-words counted _ _ _ _ (own-counted _ _) c.kind-kind.ensures (c.requires.1 _ c.requires.0) (λ d a. entry _ d a)

@@ -5,4 +5,4 @@ use Rattle.row_checks.proofs.parts.count_default.Goals as goal
 
 pub returns : goal.returns
 unfolding default_count
-returns c = rw (c.from.ensures, c.detail.ensures)
+returns c = rw (c.from.ensures, c.is_marked.ensures)
