@@ -1,6 +1,6 @@
 -- Forks by the words of a row: kinds 13, 15, 16 and 20, 19 with a condition, and 18 with anything below its Block.
 -- Assumes nothing.
-use mathlib.Core.Path.{◌≡◌, refl, ◌∙◌, ap}
+use mathlib.Core.Path.{◌≡◌, refl, sym, ◌∙◌, ap}
 use mathlib.Core.Bool.{Bool, true, false, ◌||◌, ◌&&◌}
 use mathlib.Core.List.{List, [], ◌∷◌}
 use Prim.Native.Nat.{ℕ, zero, suc, ◌≤◌, ◌<◌}
@@ -76,13 +76,9 @@ module _ {w p b : List ℕ} (body : Body w p b) (r : ℕ) (l : r < row_count w) 
       (λ f. rw (← own-fork, ← own-select, f, is_fork))
 
   -- ---- as the code's match knows the kind
-  pub fork-always : among (13 ∷ 15 ∷ 16 ∷ 20 ∷ []) (kind w r) ≡ true → true ≡ is_fork w r
-  fork-always t = rw t at fork-words
-
   pub fork-arm : (n : ℕ) → n ≡ kind w r → fork_at n ≡ is_fork w r
   fork-arm n e = ap fork_at e ∙ fork-words
 
-  pub fork-never : NoneOf (20 ∷ 19 ∷ 18 ∷ 16 ∷ 15 ∷ 13 ∷ []) (kind w r) → false ≡ is_fork w r
-  fork-never (((((((u, a), b), c), d), f), g)) =
-      let k = kind w r in
-      rw (ne_eqb k 13 a, ne_eqb k 15 b, ne_eqb k 16 c, ne_eqb k 18 d, ne_eqb k 19 f, ne_eqb k 20 g) at fork-words
+  pub fork-rest : {k : ℕ} → k ≡ kind w r → NoneOf (20 ∷ 19 ∷ 18 ∷ 16 ∷ 15 ∷ 13 ∷ []) k → false ≡ is_fork w r
+  fork-rest {k} e (((((((u, a), b), c), d), f), g)) =
+      sym (rw (ne_eqb k 13 a, ne_eqb k 15 b, ne_eqb k 16 c, ne_eqb k 18 d, ne_eqb k 19 f, ne_eqb k 20 g)) ∙ ap fork_at e ∙ fork-words
