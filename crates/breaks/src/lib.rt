@@ -33,16 +33,16 @@ fn is_break(body: Body<'_>, row: RowNumber, label: NameNumber, implicit: bool) -
 
 // Whether the statement is or contains a break that refers to the labelled statement around it or,
 // where `implicit`, to the closest outer one that a break can leave.
-#[cycle(has_break_has_break_list)]
+#[cycle(has_break_has_break_items)]
 #[tactic(auto, using(body::proofs::Facts::allowed, body::proofs::Facts::end_fits))]
-fn has_break(body: Body<'_>, row: RowNumber, label: NameNumber, implicit: bool) -> bool
-    requires { row.0 < row_count body.rows.now }
-    ensures { result ≡ any_leaves body.entry.rows.now body.entry.pairs.now body.entry.bytes.now row.0
-        (end body.entry.rows.now row.0) label.0 implicit }
+fn has_break(body: &Body<'_>, row: RowNumber, label: NameNumber, implicit: bool) -> bool
+    requires { row.0 < row_count body.now.rows.now }
+    ensures { result ≡ any_leaves body.now.rows.now body.now.pairs.now body.now.bytes.now row.0
+        (end body.now.rows.now row.0) label.0 implicit }
 {
     let kind = rows::kind_at(body.rows, row);
     if kind == Kind::Branch {
-        return is_break(body, row, label, implicit);
+        return is_break(*body, row, label, implicit);
     }
     let first = RowNumber(row.0 + 1);
     let end = row.0 + rows::size(body.rows, row);
@@ -50,22 +50,22 @@ fn has_break(body: Body<'_>, row: RowNumber, label: NameNumber, implicit: bool) 
         if label.0 == 0 {
             return false;
         }
-        return has_break_list(body, first, end, label, false);
+        return has_break_items(body, first, end, label, false);
     }
-    has_break_list(body, first, end, label, implicit)
+    has_break_items(body, first, end, label, implicit)
 }
 
-#[cycle(has_break_has_break_list)]
+#[cycle(has_break_has_break_items)]
 #[tactic(auto, using(body::proofs::Facts::end_fits, body::proofs::Facts::some_rows))]
-pub fn has_break_list(
-    body: Body<'_>,
+fn has_break_items(
+    body: &Body<'_>,
     from: RowNumber,
     end: usize,
     label: NameNumber,
     implicit: bool,
 ) -> bool
-    requires { Closed body.rows.now from.0 end }
-    ensures { result ≡ any_leaves body.entry.rows.now body.entry.pairs.now body.entry.bytes.now from.0 end label.0 implicit }
+    requires { Closed body.now.rows.now from.0 end }
+    ensures { result ≡ any_leaves body.now.rows.now body.now.pairs.now body.now.bytes.now from.0 end label.0 implicit }
 {
     let mut c = from.0;
     while c < end {
@@ -76,4 +76,19 @@ pub fn has_break_list(
         c += rows::size(body.rows, item);
     }
     false
+}
+
+// The same of the items from `from` on, before `end`. The searches hand the body on by reference, so
+// that a level of nesting takes less stack.
+pub fn has_break_list(
+    body: Body<'_>,
+    from: RowNumber,
+    end: usize,
+    label: NameNumber,
+    implicit: bool,
+) -> bool
+    requires { Closed body.rows.now from.0 end }
+    ensures { result ≡ any_leaves body.entry.rows.now body.entry.pairs.now body.entry.bytes.now from.0 end label.0 implicit }
+{
+    has_break_items(&body, from, end, label, implicit)
 }

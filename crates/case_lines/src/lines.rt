@@ -6,7 +6,7 @@ use testing::words;
 
 // The words and bytes of one body, and how many of each are in use: none where a line couldn't be
 // taken.
-#[derive(Drop)]
+#[derive(Clone, Copy)]
 pub struct Lines {
     rows: [u32; 640],
     pairs: [u32; 64],

@@ -56,6 +56,12 @@ module _ (w : List ℕ) (r : ℕ) (a : detail_allowed (kind w r) (detail w r) �
     unfolding class_of
     detail-fallthrough = by-detail 3
 
+    pub detail-others : (detail w r ≡ 2 → ⊥) → (detail w r ≡ 3 → ⊥) → one_of (break ∷ continue ∷ []) (class w r) ≡ true
+    detail-others g f = elim (ℕ_discrete (detail w r) 0) [
+      | yes z ↦ rw (detail-break z)
+      | no n ↦ rw (detail-continue (omega (arith, detail-below)))
+    ]
+
     pub detail-jumps : (k : Branch) → number k ≡ detail w r → (k ≡ Break) ⊎ (k ≡ Continue) → one_of (break ∷ continue ∷ []) (class w r) ≡ true
     detail-jumps k e (inl i) = rw (detail-break (is-branch e i))
     detail-jumps k e (inr i) = rw (detail-continue (is-branch e i))

@@ -169,25 +169,10 @@ pub fn jump_branches(
     if name.0 == 0 {
         return faults;
     }
-    match rows::branch_at(body.rows, row) {
-        Branch::Fallthrough => {
-            sheet::report(body.rows, sheet, faults, Code::LabelledFallthrough, row, 0);
-            faults + 1
-        }
-        Branch::Goto => {
-            goto_branches(
-                body,
-                tables,
-                sheet,
-                bindings,
-                heads,
-                goto_or_label,
-                row,
-                faults,
-            );
-            faults
-        }
-        Branch::Break | Branch::Continue => break_branches(
+    // by the number, which takes fewer tests a row than a Branch does
+    let detail = rows::detail(body.rows, row);
+    if detail == u32::from(Branch::Goto) {
+        goto_branches(
             body,
             tables,
             sheet,
@@ -196,6 +181,21 @@ pub fn jump_branches(
             goto_or_label,
             row,
             faults,
-        ),
+        );
+        return faults;
     }
+    if detail == u32::from(Branch::Fallthrough) {
+        sheet::report(body.rows, sheet, faults, Code::LabelledFallthrough, row, 0);
+        return faults + 1;
+    }
+    break_branches(
+        body,
+        tables,
+        sheet,
+        bindings,
+        heads,
+        goto_or_label,
+        row,
+        faults,
+    )
 }

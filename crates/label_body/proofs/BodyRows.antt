@@ -1,7 +1,6 @@
 -- The walk of a body from its start to its end: the walk's state at row 0, and what stands on the sheet and in the bindings when all is reported.
 -- Assumes nothing.
 use mathlib.Core.Path.{◌≡◌, sym, ◌∙◌, ap}
-use mathlib.Core.Bool.{Bool}
 use mathlib.Core.List.{List, [], ◌∷◌}
 use mathlib.Core.Option.{Option, none}
 use Prim.Native.Nat.{ℕ, suc, ◌*◌, ◌≤◌, ◌<◌}
@@ -36,7 +35,7 @@ module _ (w p b : List ℕ) where
   unfolding previous_pending
   nothing-pending c = none-highest (waits w p b 0 c) 0 (λ k h. absurd (omega arith))
 
-  pub walking_start : {cs ds ls s t h l : List ℕ} {c : List (Context ℕ)} {u : List Bool} → Lent w p cs ds ls s t h l c u → Walking w p b 0 0 s t h l
+  pub walking_start : {cs ds ls s t h l : List ℕ} {c : List (Context ℕ)} {u : List ℕ} → Lent w p cs ds ls s t h l c u → Walking w p b 0 0 s t h l
   walking_start {t = t} lent = record {
     rows = omega arith;
     count = ap length (sym (faults-zero w p b));

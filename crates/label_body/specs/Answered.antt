@@ -1,6 +1,6 @@
 -- What the label call lends to the walk, and what the walk leaves: the sheet and the bindings from the start on, and the words past them as they were.
 -- Assumes nothing.
-use Rattle.std.specs.Prelude.{◌≡◌, Bool, false, List, ℕ, ◌*◌, ◌≤◌, ◌<◌, length, get_or, take, drop}
+use Rattle.std.specs.Prelude.{◌≡◌, List, ℕ, ◌*◌, ◌≤◌, ◌<◌, length, get_or, take, drop}
 use Rattle.rules.specs.Rows.{row_count}
 use Rattle.rules.specs.Names.{count_of_pairs}
 use Rattle.rules.specs.Labels.{sheet as sheet_of, bindings as bindings_of}
@@ -15,7 +15,7 @@ pub record Blank (w sheet bindings : List ℕ) : Type 0 where
   pub bindings_zero : (g : ℕ) → g < row_count w → get_or bindings g 0 ≡ 0
 
 -- room for each table, and 0 where the walk starts from 0
-pub record Lent (w p canonical label-rows lists sheet bindings heads goto-or-label : List ℕ) (contexts : List (Context ℕ)) (used : List Bool) : Type 0 where
+pub record Lent (w p canonical label-rows lists sheet bindings heads goto-or-label : List ℕ) (contexts : List (Context ℕ)) (used : List ℕ) : Type 0 where
   pub canonical_room : count_of_pairs p < length canonical
   pub label_rows_room : count_of_pairs p < length label-rows
   pub lists_room : row_count w ≤ length lists
@@ -29,7 +29,7 @@ pub record Lent (w p canonical label-rows lists sheet bindings heads goto-or-lab
   pub bindings_zero : (g : ℕ) → g < row_count w → get_or bindings g 0 ≡ 0
   pub heads_zero : (c : ℕ) → get_or heads c 0 ≡ 0
   pub contexts_zero : (l : ℕ) → get_or contexts l none_yet ≡ none_yet
-  pub used_zero : (c : ℕ) → get_or used c false ≡ false
+  pub used_zero : (c : ℕ) → get_or used c 0 ≡ 0
 
 -- the sheet's row count, and both written
 pub record Answered (w p b : List ℕ) (n : ℕ) (s t s' t' : List ℕ) : Type 0 where

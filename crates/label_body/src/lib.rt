@@ -21,7 +21,7 @@ fn walk_body(
     heads: &mut [u16],
     goto_or_label: &mut [u16],
     contexts: &mut [Context<u16>],
-    used: &mut [bool],
+    used: &mut [u8],
 ) -> usize
     requires lent { Lent body.rows.now body.pairs.now canonical.old label_rows.old lists.old sheet.old
         bindings.old heads.old goto_or_label.old contexts.old used.old }
@@ -62,7 +62,7 @@ pub fn walk<const NAMES: usize, const ROWS: usize>(
     let mut canonical = [0u32; NAMES];
     let mut label_rows = [0u16; NAMES];
     let mut heads = [0u16; NAMES];
-    let mut used = [false; NAMES];
+    let mut used = [0u8; NAMES];
     let mut lists = [0u16; ROWS];
     let mut goto_or_label = [0u16; ROWS];
     let mut contexts = [Context {

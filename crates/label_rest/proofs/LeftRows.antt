@@ -3,7 +3,7 @@
 -- pending goto keeps some.
 -- Assumes nothing.
 use mathlib.Core.Path.{◌≡◌, refl, sym, ◌∙◌, ap}
-use mathlib.Core.Bool.{Bool, true, false, ◌&&◌}
+use mathlib.Core.Bool.{Bool, true, false, ◌&&◌, not}
 use mathlib.Core.Logic.{inl, inr}
 use mathlib.Core.List.{List, [], ◌∷◌, ◌++◌, append-nil, append_assoc}
 use mathlib.Core.Option.{none, some}
@@ -126,20 +126,20 @@ module _ {w p b : List ℕ} (body : Body w p b) where
       sym (is-declared-for body c d e).3 ∙ (labels-canon body g d h l n).1
 
   -- ---- the table, one row further
-  pub table_same : (g : ℕ) (u : List Bool) → UsedBefore w p b g u → ((c d : ℕ) → declared_for w p b c ≡ some d → uses w p b d g ≡ false)
+  pub table_same : (g : ℕ) (u : List ℕ) → UsedBefore w p b g u → ((c d : ℕ) → declared_for w p b c ≡ some d → uses w p b d g ≡ false)
       → UsedBefore w p b (suc g) u
-  table_same g u t n c d z h e = t c d z h e ∙ sym (before-no w p b d g (n c d e))
+  table_same g u t n c d z h e = t c d z h e ∙ ap not (sym (before-no w p b d g (n c d e)))
 
-  pub table-set : (g c e : ℕ) (u : List Bool) → UsedBefore w p b g u → g < row_count w → c ≡ row_canon w p b g → c < length u
-      → declared_for w p b c ≡ some e → uses w p b e g ≡ true → UsedBefore w p b (suc g) (set u c true)
+  pub table-set : (g c e : ℕ) (u : List ℕ) → UsedBefore w p b g u → g < row_count w → c ≡ row_canon w p b g → c < length u
+      → declared_for w p b c ≡ some e → uses w p b e g ≡ true → UsedBefore w p b (suc g) (set u c 1)
   table-set g c e u t row ec room at yes-uses c' d z h f = elim (ℕ_discrete c' c) [
     | yes y ↦
         let i : some e ≡ some d = sym at ∙ ap (declared_for w p b) (sym y) ∙ f in
         let j : e ≡ d = cc in
-        rw (y, get_or-set_same u c true false room) (sym (before-yes w p b d g (rw j at yes-uses)))
+        rw (y, get_or-set_same u c 1 0 room, before-yes w p b d g (rw j at yes-uses)) (ne_eqb 1 0 (λ k. omega arith))
     | no o ↦
-        rw (get_or-set_other u c c' true false o)
-        (t c' d z h f ∙ sym (before-no w p b d g (case-of (uses w p b d g) (λ q. absurd (o (uses-number c' d g row f q ∙ sym ec))) (λ q. q))))
+        rw (get_or-set_other u c c' 1 0 o)
+        (t c' d z h f ∙ ap not (sym (before-no w p b d g (case-of (uses w p b d g) (λ q. absurd (o (uses-number c' d g row f q ∙ sym ec))) (λ q. q)))))
   ]
 
   -- ---- the word of a branch
@@ -222,8 +222,8 @@ module _ {w p b : List ℕ} (body : Body w p b) where
   )
 
   -- ---- one row further
-  module _ (g faults : ℕ) (s : List ℕ) (u : List Bool) (row : g < row_count w) (left : Left w p b g faults s u) where
-    over-same : (u' : List Bool) → unresolved w p b g ≡ [] → length u' ≡ length u → UsedBefore w p b (suc g) u' → LeftOver w p b (suc g) faults s s u'
+  module _ (g faults : ℕ) (s u : List ℕ) (row : g < row_count w) (left : Left w p b g faults s u) where
+    over-same : (u' : List ℕ) → unresolved w p b g ≡ [] → length u' ≡ length u → UsedBefore w p b (suc g) u' → LeftOver w p b (suc g) faults s s u'
     over-same u' e n t =
         let q = left-none w p b g e in
         record {
@@ -244,7 +244,7 @@ module _ {w p b : List ℕ} (body : Body w p b) where
     fault-small : pending w p b (row_count w) g ≡ true → faults + 1 ≤ 4000
     fault-small q = omega (arith, left-fits g row q, left.count, body.most_rows)
 
-    over-fault : (f : Fault) (s' : List ℕ) (u' : List Bool) → pending w p b (row_count w) g ≡ true → unresolved w p b g ≡ f ∷ []
+    over-fault : (f : Fault) (s' u' : List ℕ) → pending w p b (row_count w) g ≡ true → unresolved w p b g ≡ f ∷ []
         → s' ≡ sets s (faults * 4) (f.code ∷ f.position ∷ f.name ∷ f.other ∷ []) → length u' ≡ length u → UsedBefore w p b (suc g) u'
         → LeftOver w p b (suc g) (faults + 1) s s' u'
     over-fault f s' u' w' e i n t =
@@ -271,7 +271,7 @@ module _ {w p b : List ℕ} (body : Body w p b) where
         (table_same body g u left.used_at (λ c d e. case-of (uses w p b d g) (λ t. absurd (clash (cc (uses-cases w p b d g t).0))) (λ t. t)))
 
 -- ---- a branch of the body: c is its canonical number, v its word
-pub record AtBranch (w p b cs ds s : List ℕ) (u : List Bool) (g faults c v : ℕ) : Type 0 where
+pub record AtBranch (w p b cs ds s u : List ℕ) (g faults c v : ℕ) : Type 0 where
   pub body : Body w p b
   pub by_name : CanonTable p b cs
   pub by_canon : DeclaredTable w p b ds
@@ -281,7 +281,7 @@ pub record AtBranch (w p b cs ds s : List ℕ) (u : List Bool) (g faults c v : �
   pub number_is : c ≡ get_or cs (name w g) 0
   pub word-is : v ≡ binding_at w p b (row_count w) g
 
-module _ {w p b cs ds s : List ℕ} {u : List Bool} {g faults c v : ℕ} (at : AtBranch w p b cs ds s u g faults c v) where
+module _ {w p b cs ds s u : List ℕ} {g faults c v : ℕ} (at : AtBranch w p b cs ds s u g faults c v) where
   branch : is_branch (class w g) ≡ true
   branch = jump-branch at.body g at.row at.kind-is
 
@@ -293,6 +293,9 @@ module _ {w p b cs ds s : List ℕ} {u : List Bool} {g faults c v : ℕ} (at : A
 
   pub used-fits : c < length u
   used-fits = omega (arith, at.left.used_room, row-canon-within w p b g, number)
+
+  pub canon-small : c ≤ 500
+  canon-small = omega (arith, pair-most at.body, row-canon-within w p b g, number)
 
   its-word : binding w p b g ≡ v
   its-word = sym (branch-word at.body g branch) ∙ sym at.word-is
@@ -313,11 +316,11 @@ module _ {w p b cs ds s : List ℕ} {u : List Bool} {g faults c v : ℕ} (at : A
         (case-of (pending w p b (row_count w) g) (λ q. absurd (z (sym its-word ∙ waits-unbound w p b g q branch))) (λ q. q))
 
     -- to the declared label of its name
-    pub over-bound : v ≡ get_or ds c 0 → LeftOver w p b (suc g) faults s s (set u c true)
+    pub over-bound : v ≡ get_or ds c 0 → LeftOver w p b (suc g) faults s s (set u c 1)
     over-bound e =
         let i : suc (v - 1) ≡ v = omega arith in
         let named = word-found (declared_for w p b c) (v - 1) (sym (declared-read numbered-branch) ∙ sym e ∙ sym i) in
-        over-same at.body g faults s u at.row at.left (set u c true) resolved-branch (length-set u c true)
+        over-same at.body g faults s u at.row at.left (set u c 1) resolved-branch (length-set u c 1)
         (table-set at.body g c (v - 1) u at.left.used_at at.row number used-fits named (uses-binding w p b (v - 1) g branch (its-word ∙ sym i)))
 
     -- or to another
@@ -360,15 +363,15 @@ module _ {w p b cs ds s : List ℕ} {u : List Bool} {g faults c v : ℕ} (at : A
       count_small = fault-small at.body g faults s u at.row at.left waits
 
       pub over-declared : (c ≡ 0 → ⊥) → (get_or ds c 0 ≡ 0 → ⊥) → (s' : List ℕ)
-          → s' ≡ sets s (faults * 4) (7 ∷ position w g ∷ name w g ∷ 0 ∷ []) → LeftOver w p b (suc g) (faults + 1) s s' (set u c true)
+          → s' ≡ sets s (faults * 4) (7 ∷ position w g ∷ name w g ∷ 0 ∷ []) → LeftOver w p b (suc g) (faults + 1) s s' (set u c 1)
       over-declared x y s' i =
           let e : suc (get_or ds c 0 - 1) ≡ get_or ds c 0 = omega arith in
           let m : 0 < c = omega arith in
           let named = word-found (declared_for w p b c) (get_or ds c 0 - 1) (sym (declared-read m) ∙ sym e) in
           let mine : declared w p b g ≡ some (get_or ds c 0 - 1) =
           sym (declared-canon at.body g at.row (omega (arith, number))) ∙ ap (declared_for w p b) (sym number) ∙ named in
-          over-fault at.body g faults s u at.row at.left (fault w 7 g) s' (set u c true) waits
-          (unresolved-declared w p b g (get_or ds c 0 - 1) waits mine) i (length-set u c true)
+          over-fault at.body g faults s u at.row at.left (fault w 7 g) s' (set u c 1) waits
+          (unresolved-declared w p b g (get_or ds c 0 - 1) waits mine) i (length-set u c 1)
           (table-set at.body g c (get_or ds c 0 - 1) u at.left.used_at at.row number used-fits named
           (uses-pending w p b (get_or ds c 0 - 1) g branch waits mine))
 

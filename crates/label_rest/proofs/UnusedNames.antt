@@ -9,10 +9,10 @@ use mathlib.Core.Option.{none, some}
 use Prim.Native.Nat.{ℕ, zero, suc, ◌+◌, ◌-◌, ◌≤◌, ◌<◌}
 use native.Mathlib.Numerals.{add-one}
 use native.Mathlib.Omega.{arith}
-use lib.Dec.{leb}
+use lib.Dec.{leb, eqb}
 use lib.ListN.{length, get_or, take, set}
 use lib.Seq.{length-take-le}
-use borrow.Author.Tests.{le-leb, lt-leb, leb-true, not-true}
+use borrow.Author.Tests.{le-leb, lt-leb, leb-true, not-true, eq-eqb, ne_eqb}
 use Rattle.rules.specs.Scan.{how_many}
 use Rattle.rules.specs.Rows.{row_count}
 use Rattle.rules.specs.Names.{count_of_pairs}
@@ -44,17 +44,17 @@ module _ (w p b : List ℕ) (c : ℕ) where
       (λ e. absurd (clash (cc (unused-none e))))
 
 -- as the tables say
-module _ {w p b ds : List ℕ} {u : List Bool} (by_canon : DeclaredTable w p b ds) (uses : UsedTable w p b u) (c : ℕ) (z : 0 < c) (h : c ≤ count_of_pairs p) where
+module _ {w p b ds u : List ℕ} (by_canon : DeclaredTable w p b ds) (uses : UsedTable w p b u) (c : ℕ) (z : 0 < c) (h : c ≤ count_of_pairs p) where
   no_label : get_or ds c 0 ≡ 0 → is_unused w p b c ≡ false
   no_label e = case-found (declared_for w p b c)
       (λ d f. let g = by_canon.at_canon c z h ∙ ap word f in absurd (omega arith))
       (λ f. unused-none w p b c f)
 
-  its-use : (get_or ds c 0 ≡ 0 → ⊥) → is_unused w p b c ≡ not (get_or u c false)
+  its-use : (get_or ds c 0 ≡ 0 → ⊥) → is_unused w p b c ≡ eqb (get_or u c 0) 0
   its-use n =
       let i : suc (get_or ds c 0 - 1) ≡ get_or ds c 0 = omega arith in
       let f = word-found (declared_for w p b c) (get_or ds c 0 - 1) (sym (by_canon.at_canon c z h) ∙ sym i) in
-      unused-some w p b c (get_or ds c 0 - 1) f ∙ ap not (sym (uses.at_canon c (get_or ds c 0 - 1) z h f))
+      unused-some w p b c (get_or ds c 0 - 1) f ∙ sym (uses.at_canon c (get_or ds c 0 - 1) z h f)
 
 -- ---- no more than the declared labels
 module _ (w p b : List ℕ) where
@@ -146,15 +146,15 @@ module _ {w p b l : List ℕ} {c n : ℕ} (within : c ≤ count_of_pairs p) (sta
       (λ u. rw (u, passing) (omega (arith, state.all P, how_many-yes (passes w p b P) (c - 1) (rw (number, t, u)))))
       (λ u. rw (u, passing) (omega (arith, state.all P, how_many-no (passes w p b P) (c - 1) (rw (number, t, u)))))))
 
-  module _ {ds : List ℕ} {u : List Bool} (by_canon : DeclaredTable w p b ds) (uses : UsedTable w p b u) where
+  module _ {ds u : List ℕ} (by_canon : DeclaredTable w p b ds) (uses : UsedTable w p b u) where
     from : 0 < c
     from = omega (arith, state.few)
 
     pub turn-none : get_or ds c 0 ≡ 0 → Collected w p b (c + 1) n l
     turn-none e = not-collected (no_label by_canon uses c from within e)
 
-    pub turn-used : (get_or ds c 0 ≡ 0 → ⊥) → get_or u c false ≡ true → Collected w p b (c + 1) n l
-    turn-used some-label o = not-collected (its-use by_canon uses c from within some-label ∙ ap not o)
+    pub turn-used : (get_or ds c 0 ≡ 0 → ⊥) → (get_or u c 0 ≡ 0 → ⊥) → Collected w p b (c + 1) n l
+    turn-used some-label o = not-collected (its-use by_canon uses c from within some-label ∙ ne_eqb (get_or u c 0) 0 o)
 
-    pub turn-unused : (get_or ds c 0 ≡ 0 → ⊥) → get_or u c false ≡ false → n < length l → Collected w p b (c + 1) (n + 1) (set l n c)
-    turn-unused some-label o h = collected (its-use by_canon uses c from within some-label ∙ ap not o) h
+    pub turn-unused : (get_or ds c 0 ≡ 0 → ⊥) → get_or u c 0 ≡ 0 → n < length l → Collected w p b (c + 1) (n + 1) (set l n c)
+    turn-unused some-label o h = collected (its-use by_canon uses c from within some-label ∙ eq-eqb (get_or u c 0) 0 o) h

@@ -1,7 +1,7 @@
 -- The state of the last pass over the rows when it stands at row r: the gotos before r that are pending at the end, and the labels that the branches
 -- before r use.
 -- Assumes nothing.
-use Rattle.std.specs.Prelude.{◌≡◌, Bool, false, ◌&&◌, ◌||◌, List, ◌++◌, ℕ, suc, ◌*◌, ◌≤◌, ◌<◌, eqb, length, get_or, take, drop}
+use Rattle.std.specs.Prelude.{◌≡◌, Bool, ◌&&◌, ◌||◌, not, List, ◌++◌, ℕ, suc, ◌*◌, ◌≤◌, ◌<◌, eqb, length, get_or, take, drop}
 use Rattle.std.proofs.Math.Option.{some}
 use Rattle.rules.specs.Scan.{lowest}
 use Rattle.rules.specs.Rows.{row_count}
@@ -23,10 +23,10 @@ module _ (w p b : List ℕ) where
       (λ g. is_branch (class w g) && (eqb (binding w p b g) (suc d) || (pending w p b (row_count w) g && is (declared w p b g) d))) r)
 
   -- which declared labels they use, by canonical number
-  abbrev pub UsedBefore : ℕ → List Bool → Type 0
-  UsedBefore r used-table = (c d : ℕ) → 0 < c → c ≤ count_of_pairs p → declared_for w p b c ≡ some d → get_or used-table c false ≡ used_before r d
+  abbrev pub UsedBefore : ℕ → List ℕ → Type 0
+  UsedBefore r used-table = (c d : ℕ) → 0 < c → c ≤ count_of_pairs p → declared_for w p b c ≡ some d → eqb (get_or used-table c 0) 0 ≡ not (used_before r d)
 
-  pub record Left (r faults : ℕ) (sheet : List ℕ) (used-table : List Bool) : Type 0 where
+  pub record Left (r faults : ℕ) (sheet used-table : List ℕ) : Type 0 where
     pub count : faults ≡ length (left_at r)
     pub sheet_room : row_count w * 8 ≤ length sheet
     pub reported : take (faults * 4) sheet ≡ fault_words (left_at r)
@@ -34,7 +34,7 @@ module _ (w p b : List ℕ) where
     pub used_at : UsedBefore r used-table
 
   -- one more row: from the sheet at entry, the state at r with the words at exit; what is past the sheet's rows stays
-  pub record LeftOver (r faults : ℕ) (sheet sheet' : List ℕ) (used-table' : List Bool) : Type 0 where
+  pub record LeftOver (r faults : ℕ) (sheet sheet' used-table' : List ℕ) : Type 0 where
     pub state : Left r faults sheet' used-table'
     pub sheet_length : length sheet' ≡ length sheet
     pub sheet_kept : drop (faults * 4) sheet' ≡ drop (faults * 4) sheet

@@ -1,6 +1,6 @@
 -- What the walk hands on to the end of the sheet.
 -- Assumes nothing.
-use Rattle.std.specs.Prelude.{◌≡◌, Bool, false, ◌&&◌, not, List, ◌++◌, ℕ, suc, ◌*◌, ◌≤◌, ◌<◌, length, get_or, take, drop}
+use Rattle.std.specs.Prelude.{◌≡◌, Bool, false, ◌&&◌, not, List, ◌++◌, ℕ, suc, ◌*◌, ◌≤◌, ◌<◌, eqb, length, get_or, take, drop}
 use Rattle.std.proofs.Math.Option.{none, some}
 use Rattle.rules.specs.Scan.{how_many}
 use Rattle.rules.specs.Rows.{row_count}
@@ -32,9 +32,9 @@ module _ (w p b : List ℕ) where
     pub bound : take (row_count w) bindings ≡ bindings_at w p b (row_count w)
 
   -- which declared labels are used, by canonical number
-  pub record UsedTable (used-table : List Bool) : Type 0 where
+  pub record UsedTable (used-table : List ℕ) : Type 0 where
     pub room : count_of_pairs p < length used-table
-    pub at_canon : (c d : ℕ) → 0 < c → c ≤ count_of_pairs p → declared_for w p b c ≡ some d → get_or used-table c false ≡ used w p b d
+    pub at_canon : (c d : ℕ) → 0 < c → c ≤ count_of_pairs p → declared_for w p b c ≡ some d → eqb (get_or used-table c 0) 0 ≡ not (used w p b d)
 
   -- the label declared for the canonical number c is not used
   unfoldable pub is_unused : ℕ → Bool

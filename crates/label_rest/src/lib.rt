@@ -1,7 +1,7 @@
 // What is left at the end of the walk: gotos without a label, and labels that nothing used.
 #![tactic(auto)]
 
-ghost use Rattle.std.specs.Prelude.{◌≡◌, false, ℕ, suc, ◌*◌, ◌≤◌, ◌<◌, length, get_or, take};
+ghost use Rattle.std.specs.Prelude.{◌≡◌, ℕ, suc, ◌*◌, ◌≤◌, ◌<◌, length, get_or, take};
 ghost use Rattle.rules.specs.Rows.{row_count, kind};
 ghost use Rattle.rules.specs.Names.{count_of_pairs};
 ghost use Rattle.rules.specs.Labels.{sheet as sheet_of};
@@ -25,7 +25,7 @@ fn unresolved_at(
     label_rows: &[u16],
     sheet: &mut [u32],
     bound: u32,
-    used: &mut [bool],
+    used: &mut [u8],
     row: RowNumber,
     faults: usize,
 ) -> usize
@@ -40,7 +40,7 @@ fn unresolved_at(
     let c = tables::canon_of(body.rows, canonical, row);
     if bound != 0 {
         if bound == u32::from(label_rows[c]) {
-            used[c] = true;
+            used[c] = 1;
         }
         return faults;
     }
@@ -48,7 +48,7 @@ fn unresolved_at(
         return faults;
     }
     if c != 0 && label_rows[c] != 0 {
-        used[c] = true;
+        used[c] = 1;
         sheet::report(body.rows, sheet, faults, Code::GotoIntoBlock, row, 0);
         return faults + 1;
     }
@@ -63,13 +63,13 @@ pub fn unresolved(
     label_rows: &[u16],
     sheet: &mut [u32],
     bindings: &[u32],
-    used: &mut [bool],
+    used: &mut [u8],
     faults: usize,
 ) -> usize
     requires body { CanonTable body.pairs.now body.bytes.now canonical.now
         × DeclaredTable body.rows.now body.pairs.now body.bytes.now label_rows.now }
     requires at_end { AtEnd body.rows.now body.pairs.now body.bytes.now faults sheet.old bindings.now × (count_of_pairs body.pairs.now < length used.old)
-        × ((c : ℕ) → get_or used.old c false ≡ false) }
+        × ((c : ℕ) → get_or used.old c 0 ≡ 0) }
     ensures sheet { Reported result (faults_left body.entry.rows.now body.entry.pairs.now body.entry.bytes.now) sheet.old sheet.new }
     ensures used { UsedTable body.entry.rows.now body.entry.pairs.now body.entry.bytes.now used.new }
 {
@@ -94,7 +94,7 @@ pub fn unresolved(
 
 // Writes the canonical numbers of the labels that nothing used to the start of `names`. It answers
 // how many they are.
-fn unused_names(body: Body<'_>, label_rows: &[u16], used: &[bool], names: &mut [u16]) -> usize
+fn unused_names(body: Body<'_>, label_rows: &[u16], used: &[u8], names: &mut [u16]) -> usize
     requires body { DeclaredTable body.rows.now body.pairs.now body.bytes.now label_rows.now
         × UsedTable body.rows.now body.pairs.now body.bytes.now used.now }
     requires pairs_in_bounds { count_of_pairs body.pairs.now < length names.old }
@@ -103,7 +103,7 @@ fn unused_names(body: Body<'_>, label_rows: &[u16], used: &[bool], names: &mut [
 {
     let mut n = 0;
     for c in 1..body.names().count() + 1 {
-        if label_rows[c] != 0 && !used[c] {
+        if label_rows[c] != 0 && used[c] == 0 {
             names[n] = c as u16;
             n += 1;
         }
@@ -144,7 +144,7 @@ fn put_unused(
 pub fn unused(
     body: Body<'_>,
     label_rows: &[u16],
-    used: &[bool],
+    used: &[u8],
     names: &mut [u16],
     spare: &mut [u16],
     sheet: &mut [u32],

@@ -181,47 +181,44 @@ fn stmt_branches(
     ensures contexts { Contexts body.entry.rows.now body.entry.pairs.now body.entry.bytes.now (suc row.0) contexts.new }
     ensures around { InHand body.entry.rows.now (word (row_found result.around.list)) result.around.end (row.0 + 1) }
 {
-    match rows::kind_at(body.rows, row) {
-        Kind::Labeled => {
-            let more = labeled_branches(
-                body,
-                tables,
-                sheet,
-                bindings,
-                heads,
-                goto_or_label,
-                contexts,
-                row,
-                faults,
-            );
-            Step {
-                faults: more,
-                around: here,
-            }
-        }
-        Kind::Branch => {
-            let more = jumps::jump_branches(
-                body,
-                tables,
-                sheet,
-                bindings,
-                heads,
-                goto_or_label,
-                row,
-                faults,
-            );
-            Step {
-                faults: more,
-                around: here,
-            }
-        }
-        _ => {
-            plain_branches(body, tables.lists, goto_or_label, contexts, row);
-            Step {
-                faults,
-                around: list_after(body.rows, here, row.0),
-            }
-        }
+    // by the number, which takes fewer tests a row than a Kind does
+    if rows::kind(body.rows, row) == u32::from(Kind::Branch) {
+        let more = jumps::jump_branches(
+            body,
+            tables,
+            sheet,
+            bindings,
+            heads,
+            goto_or_label,
+            row,
+            faults,
+        );
+        return Step {
+            faults: more,
+            around: here,
+        };
+    }
+    if rows::kind_at(body.rows, row) == Kind::Labeled {
+        let more = labeled_branches(
+            body,
+            tables,
+            sheet,
+            bindings,
+            heads,
+            goto_or_label,
+            contexts,
+            row,
+            faults,
+        );
+        return Step {
+            faults: more,
+            around: here,
+        };
+    }
+    plain_branches(body, tables.lists, goto_or_label, contexts, row);
+    Step {
+        faults,
+        around: list_after(body.rows, here, row.0),
     }
 }
 

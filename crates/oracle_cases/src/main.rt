@@ -47,9 +47,8 @@ fn as_due(list: &mut impl Read, length: u32) -> io::Result<bool> {
     let mut due = [0u8; ROOM];
     let mut out = [0u8; ROOM];
     let kept = next_part(list, length as usize, &mut file)?;
-    let Some(due_length) = next_length(list)? else {
-        return Ok(false); // the list ends
-    };
+    // in this place 4,294,967,295 is a length as any other
+    let due_length = next_length(list)?.unwrap_or(u32::MAX);
     let due_end = next_part(list, due_length as usize, &mut due)?;
     let out_end = report::report(&file[..kept], u64::from(length), &mut out);
     Ok(out[..out_end] == due[..due_end])

@@ -21,18 +21,28 @@ use rows::kinds::Kind;
 
 // Whether the statement is terminating. If it is labelled, `label` is the name of the label directly
 // on it.
-#[cycle(is_terminating_is_terminating_list_is_terminating_switch)]
-#[tactic(auto, using(body::proofs::Facts::allowed, body::proofs::Facts::end_fits))]
 pub fn is_terminating(body: Body<'_>, row: RowNumber, label: NameNumber) -> bool
     requires { (row.0 < row_count body.rows.now) × (is_statement (class body.rows.now row.0) ≡ true)
         × (label.0 ≡ label_number body.rows.now row.0) }
     ensures { result ≡ is_terminating_body body.entry.rows.now body.entry.pairs.now body.entry.bytes.now row.0 }
 {
+    is_terminating_stmt(&body, row, label)
+}
+
+// The same. The rules hand the body on by reference: so a statement below a label, or the last item of
+// a Block, takes no more stack than one that stands in no other.
+#[cycle(is_terminating_stmt_is_terminating_list_is_terminating_switch)]
+#[tactic(auto, using(body::proofs::Facts::allowed, body::proofs::Facts::end_fits))]
+fn is_terminating_stmt(body: &Body<'_>, row: RowNumber, label: NameNumber) -> bool
+    requires { (row.0 < row_count body.now.rows.now) × (is_statement (class body.now.rows.now row.0) ≡ true)
+        × (label.0 ≡ label_number body.now.rows.now row.0) }
+    ensures { result ≡ is_terminating_body body.now.rows.now body.now.pairs.now body.now.bytes.now row.0 }
+{
     let rows = body.rows;
     let first = RowNumber(row.0 + 1);
     let end = row.0 + rows::size(rows, row);
     match rows::kind_at(rows, row) {
-        Kind::Labeled => is_terminating(body, first, rows::name(rows, row)),
+        Kind::Labeled => is_terminating_stmt(body, first, rows::name(rows, row)),
         // a panic
         Kind::Expr => rows::is_marked(rows, row),
         Kind::Return => true,
@@ -46,11 +56,11 @@ pub fn is_terminating(body: Body<'_>, row: RowNumber, label: NameNumber) -> bool
             if !with_else {
                 return false;
             }
-            if !is_terminating(body, first, NameNumber(0)) {
+            if !is_terminating_stmt(body, first, NameNumber(0)) {
                 return false;
             }
             let els = RowNumber(first.0 + rows::size(rows, first));
-            is_terminating(body, els, NameNumber(0))
+            is_terminating_stmt(body, els, NameNumber(0))
         }
         Kind::Switch | Kind::TypeSwitch => is_terminating_switch(body, row, label, false),
         Kind::Select => is_terminating_switch(body, row, label, true),
@@ -59,7 +69,7 @@ pub fn is_terminating(body: Body<'_>, row: RowNumber, label: NameNumber) -> bool
             if with_condition {
                 return false;
             }
-            !breaks::has_break_list(body, first, end, label, true)
+            !breaks::has_break_list(*body, first, end, label, true)
         }
         _ => false,
     }
@@ -67,14 +77,14 @@ pub fn is_terminating(body: Body<'_>, row: RowNumber, label: NameNumber) -> bool
 
 // Whether the items from `from` on, before `end`, are terminating: the last that is no Empty is.
 // Trailing empty statements are permitted.
-#[cycle(is_terminating_is_terminating_list_is_terminating_switch)]
-fn is_terminating_list(body: Body<'_>, from: RowNumber, end: usize) -> bool
-    requires { Closed body.rows.now from.0 end × Statements body.rows.now from.0 end
-        × (label_number body.rows.now from.0 ≡ 0) }
-    ensures { result ≡ is_terminating_list body.entry.rows.now body.entry.pairs.now body.entry.bytes.now end from.0 }
+#[cycle(is_terminating_stmt_is_terminating_list_is_terminating_switch)]
+fn is_terminating_list(body: &Body<'_>, from: RowNumber, end: usize) -> bool
+    requires { Closed body.now.rows.now from.0 end × Statements body.now.rows.now from.0 end
+        × (label_number body.now.rows.now from.0 ≡ 0) }
+    ensures { result ≡ is_terminating_list body.now.rows.now body.now.pairs.now body.now.bytes.now end from.0 }
 {
     match last_item(body.rows, from, end) {
-        Some(last) => is_terminating(body, last, NameNumber(0)),
+        Some(last) => is_terminating_stmt(body, last, NameNumber(0)),
         None => false,
     }
 }
@@ -116,13 +126,13 @@ fn last_item(rows: &[u32], from: RowNumber, end: usize) -> Option<RowNumber>
 
 // Whether every clause of the switch or Select is terminating and no break refers to it. A switch
 // needs a default, so it begins with none found; a Select needs none, so it begins with one.
-#[cycle(is_terminating_is_terminating_list_is_terminating_switch)]
+#[cycle(is_terminating_stmt_is_terminating_list_is_terminating_switch)]
 #[tactic(auto, using(body::proofs::Facts::end_fits, body::proofs::Facts::some_rows))]
-fn is_terminating_switch(body: Body<'_>, row: RowNumber, label: NameNumber, found: bool) -> bool
-    requires { (row.0 < row_count body.rows.now)
-        × ((is_switch (class body.rows.now row.0) || is_class body.rows.now select row.0) ≡ true)
-        × (found ≡ is_class body.rows.now select row.0) × (label.0 ≡ label_number body.rows.now row.0) }
-    ensures { result ≡ is_terminating_body body.entry.rows.now body.entry.pairs.now body.entry.bytes.now row.0 }
+fn is_terminating_switch(body: &Body<'_>, row: RowNumber, label: NameNumber, found: bool) -> bool
+    requires { (row.0 < row_count body.now.rows.now)
+        × ((is_switch (class body.now.rows.now row.0) || is_class body.now.rows.now select row.0) ≡ true)
+        × (found ≡ is_class body.now.rows.now select row.0) × (label.0 ≡ label_number body.now.rows.now row.0) }
+    ensures { result ≡ is_terminating_body body.now.rows.now body.now.pairs.now body.now.bytes.now row.0 }
 {
     let rows = body.rows;
     let mut has_default = found;
@@ -139,7 +149,7 @@ fn is_terminating_switch(body: Body<'_>, row: RowNumber, label: NameNumber, foun
         if !is_terminating_list(body, first, next) {
             return false;
         }
-        if breaks::has_break_list(body, first, next, label, true) {
+        if breaks::has_break_list(*body, first, next, label, true) {
             return false;
         }
         c = next;

@@ -1,3 +1,4 @@
 pub mod Items
 pub mod PartsFit
 pub mod RightRows
+pub mod RowWords

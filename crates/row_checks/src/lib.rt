@@ -5,7 +5,7 @@ pub mod parts;
 pub mod plain;
 
 ghost use Rattle.std.specs.Prelude.{◌≡◌, true, not, ◌&&◌, List, ℕ, ◌<◌, eqb, leb};
-ghost use Rattle.rules.specs.Rows.{row_count};
+ghost use Rattle.rules.specs.Rows.{row_count, kind as kind_of};
 ghost use Rattle.rules.specs.Class.{class_of, detail_allowed};
 ghost use Rattle.rules.specs.Names.{count_of_pairs};
 ghost use Rattle.rules.specs.Refusals.{name_allowed, bad_row};
@@ -41,18 +41,30 @@ fn name_allowed(kind: Kind, detail: u32, pair_count: usize, name: usize) -> bool
     }
 }
 
-// Whether the row's kind, detail, position and name are allowed, where there are so many pairs.
-pub fn row_allowed(rows: &[u32], pair_count: usize, row: RowNumber) -> bool
-    requires { row.0 < row_count rows.now }
+// Whether the detail, position and name of a row of this kind are allowed, where there are so many
+// pairs.
+fn words_allowed(rows: &[u32], pair_count: usize, row: RowNumber, kind: Kind) -> bool
+    requires { (row.0 < row_count rows.now) × (number kind ≡ kind_of rows.now row.0) }
     ensures { (p : List ℕ) → count_of_pairs p ≡ pair_count → result ≡ not (bad_row rows.now p row.0) }
 {
     let detail = rows::detail(rows, row);
-    if !detail_allowed(rows::kind(rows, row), detail) {
+    if !detail_allowed(u32::from(kind), detail) {
         return false;
     }
     if rows::position(rows, row) == 0 {
         return false;
     }
     let name = rows::name(rows, row);
-    name_allowed(rows::kind_at(rows, row), detail, pair_count, name.0)
+    name_allowed(kind, detail, pair_count, name.0)
+}
+
+// Whether the row's kind, detail, position and name are allowed, where there are so many pairs.
+pub fn row_allowed(rows: &[u32], pair_count: usize, row: RowNumber) -> bool
+    requires { row.0 < row_count rows.now }
+    ensures { (p : List ℕ) → count_of_pairs p ≡ pair_count → result ≡ not (bad_row rows.now p row.0) }
+{
+    match Kind::try_from(rows::kind(rows, row)) {
+        Ok(kind) => words_allowed(rows, pair_count, row, kind),
+        Err(_) => false,
+    }
 }

@@ -16,10 +16,7 @@ fn may_be_child(rows: &[u32], child: RowNumber, holding: Holding, i: usize) -> b
     requires { child.0 < row_count rows.now }
     ensures { result ≡ true → MayBe rows.now (held holding) i child.0 }
 {
-    match Kind::try_from(rows::kind(rows, child)) {
-        Ok(kind) => shape::may_hold(holding, i, kind),
-        Err(_) => false,
-    }
+    shape::may_hold(holding, i, rows::kind(rows, child))
 }
 
 // Whether the only child of the row fills it and may stand there.

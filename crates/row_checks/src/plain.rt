@@ -6,7 +6,7 @@ ghost use Rattle.rules.specs.Names.{count_of_pairs};
 ghost use Rattle.rows.specs.Kinds.{number};
 ghost use Rattle.row_checks.specs.Plain.{Nameless, PlainItem, PlainItems};
 
-use crate::row_allowed;
+use crate::words_allowed;
 use rows::RowNumber;
 use rows::details::detail_allowed;
 use rows::kinds::Kind;
@@ -54,7 +54,7 @@ fn plain_item(rows: &[u32], pair_count: usize, row: RowNumber) -> bool
         return false;
     }
     match Kind::try_from(rows::kind(rows, row)) {
-        Ok(Kind::Branch) => row_allowed(rows, pair_count, row),
+        Ok(Kind::Branch) => words_allowed(rows, pair_count, row, Kind::Branch),
         Ok(kind) => is_nameless(kind) && nameless_allowed(rows, row),
         Err(_) => false,
     }

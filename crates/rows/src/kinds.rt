@@ -139,3 +139,23 @@ impl Kind {
         matches!(self, Kind::Block | Kind::Case | Kind::Comm)
     }
 }
+
+// Whether a continue needs a row of the kind of this number, which may be that of none.
+pub fn is_loop(kind: u32) -> bool
+    ensures { (d : ℕ) → detail_allowed kind d ≡ true → result ≡ is_loop (class_of kind d) }
+{
+    match Kind::try_from(kind) {
+        Ok(kind) => kind.is_loop(),
+        Err(_) => false,
+    }
+}
+
+// The same for a break.
+pub fn is_breakable(kind: u32) -> bool
+    ensures { (d : ℕ) → detail_allowed kind d ≡ true → result ≡ is_breakable (class_of kind d) }
+{
+    match Kind::try_from(kind) {
+        Ok(kind) => kind.is_breakable(),
+        Err(_) => false,
+    }
+}

@@ -1,9 +1,9 @@
 -- What a kind alone says of the class and of what stands below the row: each rule is one test over the table of the allowed details.
 -- Assumes nothing.
 use mathlib.Core.Path.{◌≡◌, refl, sym, ◌∙◌, ap}
-use mathlib.Core.Bool.{Bool, true, false, ◌&&◌, ◌||◌, not}
+use mathlib.Core.Bool.{Bool, true, false, ◌&&◌, ◌||◌, not, or-false}
 use mathlib.Core.List.{List, [], ◌∷◌}
-use Prim.Native.Nat.{ℕ}
+use Prim.Native.Nat.{ℕ, zero, suc}
 use lib.Dec.{eqb}
 use lib.ListN.{get_or}
 use borrow.Author.Tests.{eqb-true, ne_eqb}
@@ -27,6 +27,9 @@ NoneOf (n ∷ ns) k = NoneOf ns k × (k ≡ n → ⊥)
 pub none-among : (ns : List ℕ) (k : ℕ) → NoneOf ns k → among ns k ≡ false
 none-among [] k h = refl
 none-among (n ∷ ns) k h = rw (ne_eqb k n h.1, none-among ns k h.0)
+
+pub among-last : (k m n : ℕ) → (k ≡ m → ⊥) → eqb k n ≡ among (m ∷ n ∷ []) k
+among-last k m n h = rw (ne_eqb k m h, or-false)
 
 -- ---- tests of the class that are tests of the kind
 pub by_kind : (P : ℕ → Bool) (Q : Class → Bool)
@@ -147,3 +150,22 @@ module _ (k d : ℕ) (a : detail_allowed k d ≡ true) (i : ℕ) where
 
   pub first_block : i ≡ 0 → eqb k 12 ≡ may_hold branches i (class_of k d)
   first_block z = kind-block k d a ∙ rw z
+
+  pub second-if : i ≡ 1 → k ≡ 13 → true ≡ may_hold branches i (class_of k d)
+  second-if o e = sym (ap (among (13 ∷ 12 ∷ [])) e) ∙ kind-branch k d a ∙ rw o
+
+  pub second_block : i ≡ 1 → (k ≡ 13 → ⊥) → eqb k 12 ≡ may_hold branches i (class_of k d)
+  second_block o n = among-last k 13 12 n ∙ kind-branch k d a ∙ rw o
+
+pub no-second-statement : (c : Class) (i : ℕ) → (i ≡ 0 → ⊥) → false ≡ may_hold statement i c
+no-second-statement c zero n = absurd (n refl)
+no-second-statement c (suc j) n = refl
+
+pub no-second-block : (c : Class) (i : ℕ) → (i ≡ 0 → ⊥) → false ≡ may_hold body i c
+no-second-block c zero n = absurd (n refl)
+no-second-block c (suc j) n = refl
+
+pub no_third : (c : Class) (i : ℕ) → (i ≡ 0 → ⊥) → (i ≡ 1 → ⊥) → false ≡ may_hold branches i c
+no_third c zero n m = absurd (n refl)
+no_third c (suc zero) n m = absurd (m refl)
+no_third c (suc (suc k)) n m = refl

@@ -71,18 +71,30 @@ pub fn holding_at(rows: &[u32], row: RowNumber) -> Holding
     }
 }
 
-// Whether child number i of a row that holds this may be of this kind.
-pub fn may_hold(holding: Holding, i: usize, kind: Kind) -> bool
-    ensures { (d : ℕ) → detail_allowed (number kind) d ≡ true → result ≡ may_hold (held holding) i (class_of (number kind) d) }
+impl Holding {
+    // Whether child number i of a row that holds this may be of this kind.
+    pub fn may_hold(self, i: usize, kind: Kind) -> bool
+        ensures { (d : ℕ) → detail_allowed (number kind) d ≡ true → result ≡ may_hold (held self) i (class_of (number kind) d) }
+    {
+        match self {
+            Holding::Nothing => false,
+            Holding::Statement => i == 0 && kind.is_statement(),
+            Holding::Body => i == 0 && kind == Kind::Block,
+            Holding::Branches => may_branch(i, kind),
+            Holding::Statements => kind.is_statement(),
+            Holding::Cases => kind == Kind::Case,
+            Holding::Comms => kind == Kind::Comm,
+        }
+    }
+}
+
+// The same of a kind by its number, which may be that of none.
+pub fn may_hold(holding: Holding, i: usize, kind: u32) -> bool
+    ensures { (d : ℕ) → detail_allowed kind d ≡ true → result ≡ may_hold (held holding) i (class_of kind d) }
 {
-    match holding {
-        Holding::Nothing => false,
-        Holding::Statement => i == 0 && kind.is_statement(),
-        Holding::Body => i == 0 && kind == Kind::Block,
-        Holding::Branches => may_branch(i, kind),
-        Holding::Statements => kind.is_statement(),
-        Holding::Cases => kind == Kind::Case,
-        Holding::Comms => kind == Kind::Comm,
+    match Kind::try_from(kind) {
+        Ok(kind) => holding.may_hold(i, kind),
+        Err(_) => false,
     }
 }
 
@@ -119,7 +131,7 @@ fn children_fit(rows: &[u32], row: RowNumber, holding: Holding) -> bool
     let mut i = 0;
     while c < end {
         let child = RowNumber(c);
-        if !may_hold(holding, i, rows::kind_at(rows, child)) {
+        if !holding.may_hold(i, rows::kind_at(rows, child)) {
             return false;
         }
         c += rows::size(rows, child);

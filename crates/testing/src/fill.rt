@@ -5,7 +5,7 @@ use rows::kinds::Kind;
 // A row; its position is 1.
 #[derive(Clone, Copy, Debug, PartialEq, Eq)]
 pub struct Row {
-    pub kind: Kind,
+    pub kind: u32,
     pub detail: u32,
     pub name: u32,
     pub size: u32,
@@ -14,7 +14,7 @@ pub struct Row {
 impl Row {
     pub fn new(kind: Kind, detail: u32, name: u32, size: u32) -> Row {
         Row {
-            kind,
+            kind: u32::from(kind),
             detail,
             name,
             size,
@@ -31,7 +31,7 @@ impl Row {
     }
 
     fn words(self) -> [u32; 5] {
-        [u32::from(self.kind), self.detail, 1, self.name, self.size]
+        [self.kind, self.detail, 1, self.name, self.size]
     }
 }
 

@@ -2,7 +2,6 @@
 -- at the end.
 -- Assumes nothing.
 use mathlib.Core.Path.{◌≡◌, sym, ◌∙◌}
-use mathlib.Core.Bool.{Bool}
 use mathlib.Core.List.{List}
 use Prim.Native.Nat.{ℕ, ◌<◌}
 use native.Mathlib.Omega.{arith}
@@ -26,7 +25,7 @@ canon_of-c-requires c =
     (row, canon-fits (facts_of c.args.body) c.requires.body.0 _ row)
 
 -- what is known of the branch once its canonical number is read
-branch : (b : Body) {cs ds s : List ℕ} {u : List Bool} {g faults c v : ℕ} → CanonTable b.pairs.now b.bytes.now cs × DeclaredTable b.rows.now b.pairs.now b.bytes.now ds
+branch : (b : Body) {cs ds s u : List ℕ} {g faults c v : ℕ} → CanonTable b.pairs.now b.bytes.now cs × DeclaredTable b.rows.now b.pairs.now b.bytes.now ds
     → (g < row_count b.rows.now) × (kind b.rows.now g ≡ 11) × (v ≡ binding_at b.rows.now b.pairs.now b.bytes.now (row_count b.rows.now) g)
     → Left b.rows.now b.pairs.now b.bytes.now g faults s u → c ≡ get_or cs (name b.rows.now g) 0 → AtBranch b.rows.now b.pairs.now b.bytes.now cs ds s u g faults c v
 branch b x y left e = record { body = facts_of b; by_name = x.0; by_canon = x.1; row = y.0; kind-is = y.1; left = left; number_is = e; word-is = y.2 }

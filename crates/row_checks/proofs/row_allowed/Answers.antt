@@ -1,53 +1,12 @@
--- The tests of the code are the parts of `bad_row`, in its order: the detail, the position, the name, with any pairs that are so many.
+-- No detail is allowed of a number that is no kind's.
 -- Assumes nothing.
-use mathlib.Core.Path.{◌≡◌, sym, ◌∙◌}
-use mathlib.Core.Bool.{true, false, not}
-use mathlib.Core.List.{List}
-use Prim.Native.Nat.{ℕ}
-use native.Mathlib.Omega.{arith}
-use borrow.Author.Tests.{lt-ltb, le-ltb}
-use Rattle.rules.specs.Rows.{kind, detail, position, name}
-use Rattle.rules.specs.Class.{detail_allowed, class_of, base}
-use Rattle.rules.specs.Names.{count_of_pairs}
-use Rattle.rules.specs.Refusals.{name_allowed, bad_row}
-use Rattle.rules.proofs.Test.{case-of}
+use mathlib.Core.Path.{refl, ◌∙◌}
+use Rattle.rules.proofs.Details.{past-kinds}
+use Rattle.row_checks.proofs.RowWords.{bad-detail}
 use Rattle.row_checks.proofs.row_allowed.Goals as goal
 
-module _ (w p : List ℕ) (r k d : ℕ) (ek : k ≡ kind w r) (ed : d ≡ detail w r) where
-  bad-detail : detail_allowed k d ≡ false → false ≡ not (bad_row w p r)
-  unfolding bad_row
-  bad-detail f = let e : detail_allowed (kind w r) (detail w r) ≡ false = cc in rw (e, bad_row)
+pub words_allowed-requires : goal.words_allowed-requires
+words_allowed-requires c = (c.requires, c.in-Ok.ensures ∙ c.kind.ensures)
 
-  module _ (t : detail_allowed k d ≡ true) (q : ℕ) (eq : q ≡ position w r) where
-    bad-position : q ≡ 0 → false ≡ not (bad_row w p r)
-    unfolding bad_row
-    bad-position z =
-        let e : detail_allowed (kind w r) (detail w r) ≡ true = cc in
-        rw (e, le-ltb 0 (position w r) (omega arith), bad_row)
-
-    by_name : (q ≡ 0 → ⊥) → (n : ℕ) → n ≡ name w r → (m : ℕ) → count_of_pairs p ≡ m → name_allowed (class_of k d) m n ≡ not (bad_row w p r)
-    unfolding bad_row base
-    by_name z n en m em =
-        let e : detail_allowed (kind w r) (detail w r) ≡ true = cc in
-        let l = lt-ltb 0 (position w r) (omega arith) in
-        let s : name_allowed (class_of k d) m n ≡ name_allowed (base w r) (count_of_pairs p) (name w r) = cc in
-        s ∙ case-of (name_allowed (base w r) (count_of_pairs p) (name w r)) (λ a. rw (e, l, a, bad_row)) (λ a. rw (e, l, a, bad_row))
-
-pub returns-then-not-detail_allowed : goal.returns-then-not-detail_allowed
-returns-then-not-detail_allowed c p many =
-    bad-detail _ p _ _ _ c.kind.ensures c.detail-detail.ensures (sym c.detail_allowed.ensures ∙ c.if-not-detail_allowed.true)
-
-pub returns-then-position-eq0 : goal.returns-then-position-eq0
-returns-then-position-eq0 c p many =
-    bad-position _ p _ _ _ c.kind.ensures c.detail-detail.ensures (sym c.detail_allowed.ensures ∙ c.if-not-detail_allowed.false) _ c.position.ensures
-    c.if-position-eq0.true
-
-pub name_allowed-requires : goal.name_allowed-requires
-name_allowed-requires c = rw (c.kind_at.ensures, ← c.kind.ensures) (sym c.detail_allowed.ensures ∙ c.if-not-detail_allowed.false)
-
-pub returns : goal.returns
-returns c p many =
-    let a = sym c.detail_allowed.ensures ∙ c.if-not-detail_allowed.false in
-    c.name_allowed.ensures
-    ∙ by_name _ p _ _ _ c.kind_at.ensures c.detail-detail.ensures (rw (c.kind_at.ensures, ← c.kind.ensures) a) _ c.position.ensures
-    c.if-position-eq0.false _ c.name-name.ensures _ many
+pub returns-in-Err : goal.returns-in-Err
+returns-in-Err c p many = bad-detail _ p _ _ _ c.kind.ensures refl (past-kinds _ _ c.in-Err.ensures)

@@ -1,16 +1,13 @@
--- In each arm the holding is known, and the table of the classes says of the kind what the definition says of the class.
+-- A number that is a kind's means that kind; of any other no detail is allowed.
 -- Assumes nothing.
-use mathlib.Core.Path.{refl, ◌∙◌}
-use Rattle.rules.proofs.ByKind.{kind-case, kind-comm, one_block}
-use Rattle.rows.specs.declared.kinds.Kind.TheVariants.{Block, Case, Comm}
-use Rattle.rows.proofs.Numbers.{eq-test}
+use mathlib.Core.Path.{◌≡◌, sym, ◌∙◌}
+use mathlib.Core.Bool.{true, false}
+use Rattle.rules.proofs.Test.{clash}
+use Rattle.rules.proofs.Details.{past-kinds}
 use Rattle.shape.proofs.may_hold.Goals as goal
 
-pub returns-then-i-eq0-2 : goal.returns-then-i-eq0-2
-returns-then-i-eq0-2 c d a = rw c.in-Body.is (c.eq.ensures ∙ eq-test _ Block refl ∙ one_block _ d a _ c.if-i-eq0-2.true)
+pub returns-in-Ok : goal.returns-in-Ok
+returns-in-Ok c d a = rw (← c.in-Ok.ensures) (c.may_hold.ensures d (rw c.in-Ok.ensures a))
 
-pub returns-in-Cases : goal.returns-in-Cases
-returns-in-Cases c d a = rw c.in-Cases.is (c.eq-in-Cases.ensures ∙ eq-test _ Case refl ∙ kind-case _ d a)
-
-pub returns-in-Comms : goal.returns-in-Comms
-returns-in-Comms c d a = rw c.in-Comms.is (c.eq-in-Comms.ensures ∙ eq-test _ Comm refl ∙ kind-comm _ d a)
+pub returns-in-Err : goal.returns-in-Err
+returns-in-Err c d a = let z : false ≡ true = sym (past-kinds _ d c.in-Err.ensures) ∙ a in absurd (clash (cc))

@@ -12,7 +12,7 @@ pub returns-in-Ok-Branch : goal.returns-in-Ok-Branch
 returns-in-Ok-Branch c y p many =
     let k : kind c.args.rows.now c.args.row.0 ≡ 11 = sym c.kind.ensures ∙ is-kind c.in-Ok-Branch.ensures c.in-Ok-Branch.field-0-is in
     plain_row _ p _ (sym c.size.ensures ∙ c.if-size-ne1.false) (λ i. omega arith) (omega arith)
-    (not-true _ (sym (c.row_allowed.ensures p many) ∙ y))
+    (not-true _ (sym (c.words_allowed.ensures p many) ∙ y))
 
 pub returns-then-is_nameless : goal.returns-then-is_nameless
 returns-then-is_nameless c y p many =

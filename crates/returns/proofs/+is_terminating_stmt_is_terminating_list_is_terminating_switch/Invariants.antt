@@ -4,16 +4,16 @@
 use Prim.Native.Nat.{◌+◌, ◌-◌, ◌*◌}
 use Rattle.rules.specs.Rows.{size}
 use Rattle.returns.proofs.SwitchRule.{Walk}
-use Rattle.returns.proofs.+is_terminating_is_terminating_list_is_terminating_switch.Given as goal
+use Rattle.returns.proofs.+is_terminating_stmt_is_terminating_list_is_terminating_switch.Given as goal
 
-abbrev pub decreases-is_terminating : goal.decreases-is_terminating
-decreases-is_terminating l = 2 * size l.body.rows.now l.row.0
+abbrev pub decreases-is_terminating_stmt : goal.decreases-is_terminating_stmt
+decreases-is_terminating_stmt l = 2 * size l.body.now.rows.now l.row.0
 
 abbrev pub decreases-is_terminating_list : goal.decreases-is_terminating_list
 decreases-is_terminating_list l = 2 * (l.end - l.from.0) + 1
 
 abbrev pub decreases-is_terminating_switch : goal.decreases-is_terminating_switch
-decreases-is_terminating_switch l = 2 * size l.body.rows.now l.row.0 - 1
+decreases-is_terminating_switch l = 2 * size l.body.now.rows.now l.row.0 - 1
 
 abbrev pub invariant-is_terminating_switch-loop-c : goal.invariant-is_terminating_switch-loop-c
 invariant-is_terminating_switch-loop-c l = Walk l.body.rows.now l.body.pairs.now l.body.bytes.now l.end l.label.0 l.initial.c l.initial.has_default l.c l.has_default
