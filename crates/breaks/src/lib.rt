@@ -55,9 +55,11 @@ fn has_break(body: &Body<'_>, row: RowNumber, label: NameNumber, implicit: bool)
     has_break_items(body, first, end, label, implicit)
 }
 
+// The same of the items from `from` on, before `end`. The searches hand the body on by reference, so
+// that a level of nesting takes less stack.
 #[cycle(has_break_has_break_items)]
 #[tactic(auto, using(body::proofs::Facts::end_fits, body::proofs::Facts::some_rows))]
-fn has_break_items(
+pub fn has_break_items(
     body: &Body<'_>,
     from: RowNumber,
     end: usize,
@@ -78,8 +80,7 @@ fn has_break_items(
     false
 }
 
-// The same of the items from `from` on, before `end`. The searches hand the body on by reference, so
-// that a level of nesting takes less stack.
+// The same of a body by value.
 pub fn has_break_list(
     body: Body<'_>,
     from: RowNumber,

@@ -69,7 +69,7 @@ fn is_terminating_stmt(body: &Body<'_>, row: RowNumber, label: NameNumber) -> bo
             if with_condition {
                 return false;
             }
-            !breaks::has_break_list(*body, first, end, label, true)
+            !breaks::has_break_items(body, first, end, label, true)
         }
         _ => false,
     }
@@ -149,7 +149,7 @@ fn is_terminating_switch(body: &Body<'_>, row: RowNumber, label: NameNumber, fou
         if !is_terminating_list(body, first, next) {
             return false;
         }
-        if breaks::has_break_list(*body, first, next, label, true) {
+        if breaks::has_break_items(body, first, next, label, true) {
             return false;
         }
         c = next;

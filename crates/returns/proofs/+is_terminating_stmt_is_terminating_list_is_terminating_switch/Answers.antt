@@ -95,8 +95,8 @@ is_terminating_stmt-returns-then-with_condition t c =
     for-answer (known (goal.at.is_terminating_stmt-returns-then-with_condition t c).After-size) c.in-For.ensures c.is_marked-with_condition.ensures
     c.if-with_condition.true
 
-pub is_terminating_stmt-has_break_list-requires : goal.is_terminating_stmt-has_break_list-requires
-is_terminating_stmt-has_break_list-requires t c = below (known (goal.at.is_terminating_stmt-has_break_list-requires t c).After-size)
+pub is_terminating_stmt-has_break_items-requires : goal.is_terminating_stmt-has_break_items-requires
+is_terminating_stmt-has_break_items-requires t c = below (known (goal.at.is_terminating_stmt-has_break_items-requires t c).After-size)
 
 pub is_terminating_stmt-returns-in-Labeled : goal.is_terminating_stmt-returns-in-Labeled
 is_terminating_stmt-returns-in-Labeled t c =
@@ -129,7 +129,7 @@ is_terminating_stmt-returns-else-not-is_terminating_stmt t c =
 pub is_terminating_stmt-returns-else-with_condition : goal.is_terminating_stmt-returns-else-with_condition
 is_terminating_stmt-returns-else-with_condition t c =
     loop-answer (known (goal.at.is_terminating_stmt-returns-else-with_condition t c).After-size) c.in-For.ensures c.is_marked-with_condition.ensures
-    c.if-with_condition.false c.has_break_list.ensures
+    c.if-with_condition.false c.has_break_items.ensures
 
 pub is_terminating_stmt-returns-in_default : goal.is_terminating_stmt-returns-in_default
 is_terminating_stmt-returns-in_default t c = other-answer (known (goal.at.is_terminating_stmt-returns-in_default t c).After-size) _ c.kind_at.ensures (search rules)
@@ -164,16 +164,16 @@ is_terminating_switch-returns-then-not-is_terminating_list t c =
     is_open (opened (goal.at.is_terminating_switch-returns-then-not-is_terminating_list t c).After-size) c.loop-c.invariant c.loop-c-test.true
     c.size-in-loop-c.ensures c.is_terminating_list.ensures c.if-not-is_terminating_list.true
 
-pub is_terminating_switch-has_break_list-requires : goal.is_terminating_switch-has_break_list-requires
-is_terminating_switch-has_break_list-requires t c =
-    let call = clause-call (opened (goal.at.is_terminating_switch-has_break_list-requires t c).After-size) c.loop-c.invariant c.loop-c-test.true
+pub is_terminating_switch-has_break_items-requires : goal.is_terminating_switch-has_break_items-requires
+is_terminating_switch-has_break_items-requires t c =
+    let call = clause-call (opened (goal.at.is_terminating_switch-has_break_items-requires t c).After-size) c.loop-c.invariant c.loop-c-test.true
     c.size-in-loop-c.ensures in
     call.1.0
 
-pub is_terminating_switch-returns-then-has_break_list : goal.is_terminating_switch-returns-then-has_break_list
-is_terminating_switch-returns-then-has_break_list t c =
-    is-left (opened (goal.at.is_terminating_switch-returns-then-has_break_list t c).After-size) c.loop-c.invariant c.loop-c-test.true
-    c.size-in-loop-c.ensures c.has_break_list.ensures c.if-has_break_list.true
+pub is_terminating_switch-returns-then-has_break_items : goal.is_terminating_switch-returns-then-has_break_items
+is_terminating_switch-returns-then-has_break_items t c =
+    is-left (opened (goal.at.is_terminating_switch-returns-then-has_break_items t c).After-size) c.loop-c.invariant c.loop-c-test.true
+    c.size-in-loop-c.ensures c.has_break_items.ensures c.if-has_break_items.true
 
 pub is_terminating_switch-loop-c-preserved : goal.is_terminating_switch-loop-c-preserved
 is_terminating_switch-loop-c-preserved t c =
@@ -185,8 +185,8 @@ is_terminating_switch-loop-c-preserved t c =
       | is_terminating_switch-then-default w ↦ default-here o i l c.is_marked-default.ensures w.if-default.true w.has_default-is
       | is_terminating_switch-else-default w ↦ default-before o i l c.is_marked-default.ensures w.if-default.false w.has_default-is
     ] in
-    next o i l c.size-in-loop-c.ensures c.is_terminating_list.ensures c.if-not-is_terminating_list.false c.has_break_list.ensures
-    c.if-has_break_list.false default
+    next o i l c.size-in-loop-c.ensures c.is_terminating_list.ensures c.if-not-is_terminating_list.false c.has_break_items.ensures
+    c.if-has_break_items.false default
 
 pub is_terminating_switch-returns : goal.is_terminating_switch-returns
 is_terminating_switch-returns t c =
